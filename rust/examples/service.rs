@@ -1,5 +1,5 @@
 //! A read-through cache that eight threads share, under load: with a weigher, a listener and an idle time. At the end
-//! nothing is lost, each value that was put there being there or told once, and the bound is kept.
+//! no value is lost: each is there, or the listener was notified of it once; and the bound is kept.
 //!
 //! `cargo run --release --example service [SECONDS]`
 

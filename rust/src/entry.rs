@@ -144,7 +144,7 @@ impl<K, V> CompResult<K, V> {
     /// The entry that is there or was taken out.
     ///
     /// # Panics
-    /// Where there is and was none.
+    /// If there is and was none.
     ///
     /// ```
     /// use ravulemis::ops::compute::Op;

@@ -7,7 +7,7 @@ use std::sync::Arc;
 pub(crate) type Test<'a, K> = &'a (dyn Fn(&K) -> bool + Sync);
 
 /// A key with its hash. The engine keeps each key once. Calls go by a test of the caller's, or by that very key; so the
-/// caller's `Eq` runs only where nothing is half changed. `Sought` equals not even itself, so it is for look-ups alone.
+/// caller's `Eq` runs only while nothing is half changed. `Sought` equals not even itself, so it is for look-ups alone.
 pub(crate) struct Key<'a, K> {
     hash: u64,
     form: Form<'a, K>,

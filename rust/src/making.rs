@@ -62,7 +62,7 @@ struct Making<K, V> {
     ended: Condvar,
 }
 
-/// The makers of a shard that are on their way: few, so they are in no order. The caller's `Eq` runs only where one
+/// The makers of a shard that are on their way: few, so they are in no order. The caller's `Eq` runs only if one
 /// joins, and its `Hash` never, so that a panic of either cannot keep a making from ending.
 pub(crate) struct Makers<K, V>(Mutex<Vec<Arc<Making<K, V>>>>);
 
@@ -72,8 +72,8 @@ impl<K, V> Default for Makers<K, V> {
     }
 }
 
-/// Ends a making, also where the maker panics.
-struct Ending<'a, K, V> {
+/// A making on its way. It ends with this, also if the maker panics.
+pub(crate) struct Ending<'a, K, V> {
     makers: &'a Makers<K, V>,
     making: Arc<Making<K, V>>,
     _awaited: Awaited,
@@ -88,11 +88,16 @@ impl<'a, K, V> Ending<'a, K, V> {
             _awaited,
         }
     }
+
+    /// Who asks from now on does not join.
+    pub fn close(&self) {
+        locked(&self.makers.0).retain(|making| !Arc::ptr_eq(making, &self.making));
+    }
 }
 
 impl<K, V> Drop for Ending<'_, K, V> {
     fn drop(&mut self) {
-        locked(&self.makers.0).retain(|making| !Arc::ptr_eq(making, &self.making));
+        self.close();
         let mut state = locked(&self.making.state);
         if matches!(*state, State::Going) {
             *state = State::Left;
@@ -118,15 +123,17 @@ impl<K: Eq, V: Clone> Makers<K, V> {
     }
 
     /// The outcome of `make`, which is called by one of those who want it at a time; the others wait for it. If it
-    /// panics, one of them is the next to make.
-    pub fn once(&self, wanted: &Wanted<K>, make: impl FnOnce() -> Outcome<V>) -> Outcome<V> {
+    /// panics or finds a value, one of them is the next: what was found may be gone when another asks.
+    pub fn once(&self, wanted: &Wanted<K>, make: impl FnOnce(&Ending<'_, K, V>) -> Outcome<V>) -> Outcome<V> {
         loop {
             let (making, is_maker) = self.join(wanted);
             if is_maker {
                 let ending = Ending::of(self, making);
-                let outcome = make();
-                let told = outcome.told();
-                *locked(&ending.making.state) = State::Done(told);
+                let outcome = make(&ending);
+                if !matches!(outcome, Outcome::Made { is_fresh: false, .. }) {
+                    let told = outcome.told();
+                    *locked(&ending.making.state) = State::Done(told);
+                }
                 return outcome;
             }
             let state = locked(&making.state);

@@ -1,4 +1,4 @@
-//! What the listener is told.
+//! What the listener is notified of.
 
 use crate::RemovalCause;
 use crate::engine::moka_engine::Listener;
@@ -63,7 +63,7 @@ impl<K, V> Left<K, V> {
     }
 }
 
-/// Notices that wait until the lock of their shard is released, and the listener that is then told of them, in order.
+/// Notices that wait until the lock of their shard is released, and the listener that is then notified, in order.
 pub(crate) struct Notices<K, V> {
     listener: Told<K, V>,
     queue: Mutex<Queue<K, V>>,
@@ -103,8 +103,8 @@ impl<K, V> Notices<K, V> {
         queue.waiting.extend(left.more);
     }
 
-    /// Tells the listener what waits. Where another thread does that it goes on with these; where the listener itself
-    /// made the call, they follow the notice that it is told now.
+    /// Notifies the listener of what waits. If another thread does that, it goes on with these; if the listener itself
+    /// made the call, they follow the notice that it is given now.
     pub fn deliver(&self) {
         let Some(mut queue) = self.take_turn() else {
             return;
@@ -147,7 +147,7 @@ impl<K, V> Notices<K, V> {
         Some(queue)
     }
 
-    // A listener that panicked is told no more. Nothing panics here, so the turn is always given back.
+    // A listener that panicked is notified no more. Nothing panics here, so the turn is always given back.
     fn tell(&self, (key, value, cause): Notice<K, V>) {
         let _awaited = Awaited::new();
         let told = catch_unwind(AssertUnwindSafe(move || {
@@ -166,7 +166,7 @@ impl<K, V> Notices<K, V> {
 }
 
 /// The engine's listener. It keeps what leaves until the lock of the shard is released: only then the caller's listener
-/// may be told, and keys and values be dropped, since their `Drop`, too, may wait for other threads.
+/// may be notified, and keys and values be dropped, since their `Drop`, too, may wait for other threads.
 pub(crate) struct Teller<K, V> {
     is_keeping: bool,
     // Whether something is to be done when the lock is released.

@@ -1,4 +1,4 @@
-//! What a cache is asked and told of its policy. moka: `policy`.
+//! The policy of a cache, expiries, and what a cache counts. moka: `policy`.
 
 /// ```
 /// use ravulemis::{EvictionPolicy, sync::Cache};
@@ -155,7 +155,7 @@ pub struct Stats {
     pub loads: u64,
     /// Makers that gave no value, by `None`, an error or a panic.
     pub load_failures: u64,
-    /// Values that left since their time was over.
+    /// Values that left because their time was over.
     pub expired: u64,
     /// Values that a caller took out or invalidated, and that have left.
     pub explicit: u64,

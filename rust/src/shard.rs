@@ -7,7 +7,7 @@
 //!   of the key that is kept, which is looked up before.
 //! - Makers. Its `get_with` is given one moment, at its start. A caller's maker may take longer than an entry lasts, so
 //!   here the value is put there at a moment after it, by `insert`; nor is a panic of the maker one in mid-call.
-//! - The clock. Where nothing can expire no call need read it, so this is not the cache that owns its clock.
+//! - The clock. If nothing can expire no call need read it, so this is not the cache that owns its clock.
 //! - Scans. Its `iter` hands out all entries at once; here a lock is held for one at a time, so its engine makes them.
 
 use crate::engine::moka_drive;
@@ -36,7 +36,7 @@ type Told<K, V> = CountingListener<Teller<K, V>>;
 type Cache<K, V> =
     moka_drive::Cache<Key<'static, K>, V, Asked<K, V>, Told<K, V>, Testing<K, V>, Weighing<K, V>, Carried>;
 
-// Where no entry can expire the clock is read once in so many calls: a moment then says only when a run is due, and a
+// If no entry can expire the clock is read once in so many calls: a moment then says only when a run is due, and a
 // reading makes an insert a quarter to a half dearer.
 const CALLS_A_READING: u32 = 64;
 // A run of maintenance asks predicates about so many entries.
@@ -94,7 +94,7 @@ pub(crate) struct Shard<K: 'static, V> {
     is_visit_due: bool,
     // Look-ups of nobody's.
     unasked: u64,
-    // Stays set where a caller's own code panicked in the middle of a call.
+    // Stays set if a caller's own code panicked in the middle of a call.
     is_in_call: AtomicBool,
     is_timed: bool,
     settings: Arc<Settings<K, V>>,
@@ -201,7 +201,7 @@ impl<K: Eq + Hash + 'static, V> Shard<K, V> {
         }
     }
 
-    /// Lets what is due leave, where no call has come for so long that it would have.
+    /// Lets what is due leave, if no call has come for so long that it would have.
     pub fn visit(&mut self)
     where
         V: Clone,
@@ -343,7 +343,7 @@ impl<K: Eq + Hash + 'static, V> Shard<K, V> {
         }
     }
 
-    /// The entry of a key, the one that is kept if one is, whose value is made where there is none. A maker that panics
+    /// The entry of a key, the one that is kept if one is, whose value is made if there is none. A maker that panics
     /// has changed nothing.
     pub fn try_get_with<E>(
         &mut self,
@@ -490,7 +490,7 @@ impl<K: 'static, V> Shard<K, V> {
         self.teller().is_some_and(Teller::is_due)
     }
 
-    /// What left since it was last taken: the listener is to be told of it, or it is to be dropped.
+    /// What left since it was last taken: the listener is to be notified of it, or it is to be dropped.
     pub fn take_left(&self) -> Option<Left<K, V>> {
         self.teller()?.take()
     }
@@ -501,8 +501,8 @@ impl<K: 'static, V> Shard<K, V> {
     }
 }
 
-// The engine's own limit of a run does not count the time of the caller's listener, which is told after the run. So the
-// runs that calls start make a single pass then, which leaves the rest to the next calls.
+// The engine's own limit of a run does not count the time of the caller's listener, which is notified after the run. So
+// the runs that calls start make a single pass then, which leaves the rest to the next calls.
 fn housekeeping(has_listener: bool) -> HousekeeperConfig {
     let mut config = HousekeeperConfig::default();
     if has_listener {

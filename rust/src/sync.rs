@@ -65,26 +65,27 @@ struct Shared<K: 'static, V, S> {
 /// A bounded cache that threads share. A clone is another owner of the same cache. moka: `sync::Cache`.
 ///
 /// Each shard is a cache of its own behind a lock, and has its share of the capacity; the builder says how many there
-/// are. A call that concerns all of them, as `invalidate_all`, `iter`, `stats` or `entry_count`, goes from one to the
-/// next, so its answer is no snapshot while other threads call.
+/// are. A call that concerns all of them, such as `invalidate_all`, `iter`, `stats` or `entry_count`, goes from one to
+/// the next, so its answer is no snapshot while other threads call.
 ///
 /// The listener is called after the lock is released, in the order in which values left the shard, by the thread by
-/// whose call they left, or by another that is notifying already. So it may call the cache. It must not put back each
-/// value that leaves with `Size`: another leaves for it, so the call never ends. A call by which nothing left neither
-/// calls the listener nor waits for it. If a maker or a closure of an entry calls the cache, the listener may be called
-/// within it: then it must not have a value made or computed for that key.
+/// whose call they left, or by another that is notifying already. So it may call the cache. It must not wait for
+/// another thread that calls the cache: if 1,024 notices are pending, that one may wait for it. Nor may it put back
+/// each value that leaves with `Size`: another leaves for it, so the call never ends. A call by which nothing left
+/// neither calls the listener nor waits for it. If a maker or a closure of an entry calls the cache, the listener may
+/// be called within it: then it must not have a value made or computed for that key.
 ///
 /// The weigher, the expiry and predicates, `Eq` of keys and `Clone` of values may be called under the lock of a shard:
 /// they must neither call the cache nor wait for a lock that a thread holds while it calls the cache. The same holds
-/// for `Drop` of keys and values after a panic and in a cache of capacity 0; otherwise they are dropped after the lock
-/// is released.
+/// for `Drop` of what a predicate has captured, and of keys and values after a panic and in a cache of capacity 0;
+/// otherwise they are dropped after the lock is released.
 ///
 /// # Panics of the caller's own code
-/// If the weigher, the expiry, a predicate or a clone of a value, be it in `get`, panics in the middle of a call, the
-/// shard is **emptied** by the next call for it: its entries are gone, and the listener is not notified of them. That
-/// is the whole cache where there is one shard, as by default with a weigher or a capacity below 2,048. The panic goes
-/// on to the caller whose call it was. A panic of `Eq`, `Hash` or `Drop`, of a maker of `get_with`, of a closure of an
-/// entry or of the listener changes nothing; after its first panic the listener is not notified again.
+/// If the weigher, the expiry, a predicate or the `Clone` of a value panics in the middle of a call, `get` among them,
+/// the shard is **emptied** by the next call for it: its entries are gone, and the listener is not notified of them.
+/// That is the whole cache if there is one shard, as by default with a weigher or a capacity below 2,048. The panic
+/// goes on to the caller whose call it was. A panic of `Eq`, `Hash` or `Drop`, of a maker of `get_with`, of a closure
+/// of an entry or of the listener changes nothing; after its first panic the listener is not notified again.
 pub struct Cache<K: 'static, V, S = RandomState>(Arc<Shared<K, V, S>>);
 
 impl<K, V, S> Clone for Cache<K, V, S> {
@@ -243,7 +244,7 @@ where
         self.with(self.place(hash), |shard| shard.get(hash, |kept| kept.borrow() == key))
     }
 
-    /// Whether there is a value under a key. It counts as no read.
+    /// Whether there is a value under a key. This does not count as a read.
     ///
     /// ```
     /// let cache = ravulemis::sync::Cache::new(100);
@@ -322,11 +323,11 @@ where
     /// and the predicate with them. It has to answer equal arguments equally.
     ///
     /// # Errors
-    /// `InvalidationClosuresDisabled` where the builder was not told `support_invalidation_closures`; `OutOfMemory`
-    /// where a shard had no memory for one more predicate: then some shards may have it already.
+    /// `InvalidationClosuresDisabled` if the cache was built without `support_invalidation_closures`; `OutOfMemory` if
+    /// a shard had no memory for one more predicate: then some shards may have it already.
     ///
     /// # Panics
-    /// Where an earlier predicate panics in a run of maintenance that this call makes: then, too, some shards may have
+    /// If an earlier predicate panics in a run of maintenance that this call makes: then, too, some shards may have
     /// it already.
     ///
     /// ```

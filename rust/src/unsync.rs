@@ -28,13 +28,13 @@ use std::time::{Duration, Instant};
 /// Names a predicate that was registered.
 pub type PredicateId = String;
 
-/// A bounded cache with one owner. It is `Send` where keys and values are.
+/// A bounded cache with one owner. It is `Send` if keys, values and the hasher are.
 ///
-/// The listener is called at the end of the call that found something to tell, in the order in which values left.
+/// The listener is called at the end of the call by which values left, in the order in which they left.
 ///
 /// # Panics of the caller's own code
-/// If the weigher, the expiry, a predicate or a clone of a value, be it in `get`, panics in the middle of a call, the
-/// cache is **emptied** by the next call that changes it: its entries are gone, and the listener is not notified of
+/// If the weigher, the expiry, a predicate or the `Clone` of a value panics in the middle of a call, `get` among them,
+/// the cache is **emptied** by the next call that changes it: its entries are gone, and the listener is not notified of
 /// them. A panic of `Eq`, `Hash` or `Drop`, of a maker of `get_with` or of the listener changes nothing; after its
 /// first panic the listener is not notified again.
 pub struct Cache<K: 'static, V, S = RandomState> {
@@ -145,7 +145,7 @@ impl<K: Eq + Hash + Sync + 'static, V: Clone + 'static> CacheBuilder<K, V> {
     /// An empty cache.
     ///
     /// # Panics
-    /// Where there is no memory for the initial capacity.
+    /// If there is no memory for the initial capacity.
     ///
     /// ```
     /// let mut cache = ravulemis::unsync::CacheBuilder::new(100).build();
@@ -155,10 +155,10 @@ impl<K: Eq + Hash + Sync + 'static, V: Clone + 'static> CacheBuilder<K, V> {
         self.build_with_hasher(RandomState::new())
     }
 
-    /// An empty cache whose keys are hashed by this.
+    /// An empty cache whose keys are hashed by this hasher.
     ///
     /// # Panics
-    /// Where there is no memory for the initial capacity.
+    /// If there is no memory for the initial capacity.
     ///
     /// ```
     /// use std::hash::RandomState;
@@ -291,7 +291,7 @@ impl<K: Eq + Hash + Sync + 'static, V: Clone + 'static, S: BuildHasher> Cache<K,
         self.with(|shard| shard.get(hash, |kept| kept.borrow() == key))
     }
 
-    /// Whether there is a value under a key. It counts as no read.
+    /// Whether there is a value under a key. This does not count as a read.
     ///
     /// ```
     /// let mut cache = ravulemis::unsync::Cache::new(100);
@@ -502,8 +502,8 @@ impl<K: Eq + Hash + Sync + 'static, V: Clone + 'static, S: BuildHasher> Cache<K,
     /// and the predicate with them. It has to answer equal arguments equally.
     ///
     /// # Errors
-    /// `InvalidationClosuresDisabled` where the builder was not told `support_invalidation_closures`; `OutOfMemory`
-    /// where there is no memory for one more predicate.
+    /// `InvalidationClosuresDisabled` if the cache was built without `support_invalidation_closures`; `OutOfMemory` if
+    /// there is no memory for one more predicate.
     ///
     /// ```
     /// # use ravulemis::unsync::Cache;

@@ -131,6 +131,60 @@ fn one_makes_for_all_that_wait() {
     assert_eq!((made.load(Ordering::SeqCst), cache.stats().loads), (50, 50));
 }
 
+/// A value of which the second clone takes long, if its number is 1.
+struct Slow(u32, Arc<AtomicU32>);
+
+impl Clone for Slow {
+    fn clone(&self) -> Self {
+        if self.0 == 1 && self.1.fetch_add(1, Ordering::SeqCst) == 1 {
+            thread::sleep(Duration::from_millis(200));
+        }
+        Slow(self.0, Arc::clone(&self.1))
+    }
+}
+
+#[test]
+fn a_value_that_was_taken_out_is_not_handed_out_by_its_maker() {
+    let (cache, clones) = (Cache::new(100), Arc::default());
+    let slow = |number| Slow(number, Arc::clone(&clones));
+    thread::scope(|scope| {
+        // The first clone is put there, the second is for those who wait.
+        scope.spawn(|| cache.get_with('a', || slow(1)));
+        while clones.load(Ordering::SeqCst) < 2 {
+            thread::yield_now();
+        }
+        assert_eq!(cache.remove(&'a').map(|value| value.0), Some(1));
+        assert_eq!(cache.get_with('a', || slow(2)).0, 2);
+    });
+}
+
+/// A key that is cloned after a look-up in vain: before the value is made, another is put there.
+#[derive(PartialEq, Eq, Hash)]
+struct Late(char);
+
+static LATE: OnceLock<Cache<Late, Slow>> = OnceLock::new();
+
+impl Clone for Late {
+    fn clone(&self) -> Self {
+        LATE.get().unwrap().insert(Late(self.0), Slow(1, Arc::default()));
+        Late(self.0)
+    }
+}
+
+#[test]
+fn a_value_that_was_taken_out_is_not_handed_out_by_one_who_found_it() {
+    let cache = LATE.get_or_init(|| Cache::new(100));
+    thread::scope(|scope| {
+        scope.spawn(|| cache.get_with_by_ref(&Late('a'), || unreachable!()));
+        while !cache.contains_key(&Late('a')) {
+            thread::yield_now();
+        }
+        thread::sleep(Duration::from_millis(50));
+        assert_eq!(cache.remove(&Late('a')).map(|value| value.0), Some(1));
+        assert_eq!(cache.get_with(Late('a'), || Slow(2, Arc::default())).0, 2);
+    });
+}
+
 #[test]
 fn waiters_share_an_error() {
     let (cache, made, start) = (Cache::<u32, u32>::new(100), AtomicU32::new(0), Barrier::new(4));

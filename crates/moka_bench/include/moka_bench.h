@@ -32,19 +32,19 @@
    full, a run is made and the operation sent again. A run has no limit, 4 repeats and a batch of 384.
      1  get                 words: keys
      2  put                 words: keys
-     3  read through        words: keys; a get, and a put at the same moment where nothing was found
+     3  read through        words: keys; a get, and a put at the same moment if nothing was found
      4  put values          words: pairs of a key and a value
      5  run                 no words; argument: the batch
      6  tick                no words; argument: how far the clock goes on, in nanoseconds
      7  gets and runs       words: keys, argument g: gets, with a run after each g of them and one at the end
      8  puts and runs       words: keys, argument g: puts, with a run after each g of them and one at the end; no run is
-                            made by the driver but where the queue is full
+                            made by the driver but if the queue is full
 
    counts: 8 words: hits, misses, inserts, the sum of the values that were found modulo 2^64, the entry count of the last
-   run, how many removals a listener was told, 0, 0. They are written where the answer is 0.
+   run, of how many removals a listener was notified, 0, 0. They are written if the answer is 0.
 
-   The answer: 0; 1 where the configuration is not served, or config or counts have another length; 2 where memory was
-   refused; 3 where the stream is malformed: an operation that is not listed, or a phase that is cut short. */
+   The answer: 0; 1 if the configuration is not served, or config or counts have another length; 2 if memory was
+   refused; 3 if the stream is malformed: an operation that is not listed, or a phase that is cut short. */
 
 #ifndef MOKA_BENCH_H
 #define MOKA_BENCH_H

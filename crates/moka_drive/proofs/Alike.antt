@@ -4,11 +4,11 @@ use Rattle.moka_parts.specs.declared.policy.Instant.{Instant}
 use Rattle.moka_parts.specs.declared.records.Record.{Record}
 use Rattle.moka_parts.specs.declared.calls.Ticket.{Ticket}
 use Rattle.moka_parts.specs.declared.error.SendError.{SendError}
-use Rattle.moka_parts.specs.Records.{Notice, record_of_key}
+use Rattle.moka_parts.specs.Records.{record_of_key}
 use Rattle.moka_parts.specs.State.{State, Settings, Events}
-use Rattle.moka_parts.specs.Maintenance.{Choice, Removes, MovesToBack, Drops, Freedom, Terms, Course, RunsWith, kept_by_choices}
-use Rattle.moka_parts.specs.Calls.{RunsIfDue, SendStep, InsertsAt, InsertStep}
-use Rattle.moka_parts.proofs.Kept.{kept_by_run, kept_by_due, kept_by_send}
+use Rattle.moka_parts.specs.Maintenance.{Choice, Removes, MovesToBack, Drops, kept_by_choices}
+use Rattle.moka_parts.specs.Calls.{SendStep, InsertsAt, InsertStep}
+use Rattle.moka_parts.proofs.Kept.{kept_by_send}
 use Rattle.moka_drive.specs.Unsent.{HidesNoMore, ShowsWrites}
 
 -- none is left of no predicates
@@ -25,16 +25,6 @@ module _ {K V X P W : Type 0} where
 
   pub then : (s t u : State K V X P W) → HidesNoMore s t → HidesNoMore t u → HidesNoMore s u
   then s t u h k = record { settings = k.settings ∙ h.settings; bound = k.bound ∙ h.bound; predicates = λ none. k.predicates (h.predicates none) }
-
-  module _ (says : P → K → V → Bool → Type 0) (Outcome : State K V X P W → Terms → Course → State K V X P W → Type 0) (Detail : State K V X P W → Terms → Freedom → Course → Type 0) where
-    pub run_hides : (s : State K V X P W) (terms : Terms) (course : Course) (notices : List (Notice K V)) (t : State K V X P W) → RunsWith says Outcome Detail s terms course notices t → HidesNoMore s t
-    run_hides s terms course notices t run =
-        kept_by_run (HidesNoMore s) s t (itself s) _ says terms course notices (λ ch enabled free. record { settings = refl; bound = refl; predicates = λ none. ap (λ ps. kept_by_choices ps ch.steps) none ∙ none_kept ch.steps }) run.0
-
-  pub due_hides : (Runs : State K V X P W → Terms → Course → List (Notice K V) → State K V X P W → Type 0) → ((s : State K V X P W) (terms : Terms) (course : Course) (notices : List (Notice K V)) (t : State K V X P W) → Runs s terms course notices t → HidesNoMore s t) →
-      (s : State K V X P W) (queued now : ℕ) (e : Events K V) (t : State K V X P W) → RunsIfDue Runs s queued now e t → HidesNoMore s t
-  due_hides Runs hides s queued now e t step = kept_by_due (HidesNoMore s) s t (itself s) Runs queued now e
-      (λ course mid housekeeping run. let h = hides s _ course e.notices mid run in record { settings = h.settings; bound = h.bound; predicates = h.predicates }) step
 
   pub send_hides : (s : State K V X P W) (ticket : ℕ) (a : Result (Unit {0}) SendError) (t : State K V X P W) → SendStep s ticket a t → HidesNoMore s t
   send_hides s ticket a t step = kept_by_send (HidesNoMore s) s t (itself s) ticket a (λ o there room. record { settings = refl; bound = refl; predicates = λ none. none }) step

@@ -6,13 +6,13 @@ use Rattle.uuid.specs.declared.Uuid.{Uuid}
 use Rattle.moka_parts.specs.declared.calls.Call.{Call}
 use Rattle.moka_parts.specs.declared.calls.Reply.{Reply}
 use Rattle.moka_parts.specs.declared.policy.Instant.{Instant}
-use Rattle.moka_parts.specs.Runs.{Engine, PromisedRun, readings_of, ids_of}
+use Rattle.moka_parts.specs.Runs.{Engine, readings_of, ids_of}
 use Rattle.moka_parts.specs.State.{Meaning}
 use Rattle.moka_parts.specs.Surroundings.{Leads}
 use Rattle.moka_drive.specs.Laws.{MadeAnytime, anytime}
 use Rattle.moka_drive.specs.Synchronous.{Made}
 use Rattle.moka_drive.proofs.Lists.{ages_out, goes_on, keeps_promises}
-use Rattle.moka_drive.proofs.Made.{listed_otherwise, otherwise, steps_otherwise}
+use Rattle.moka_drive.proofs.Made.{made_otherwise, otherwise}
 
 -- a clock or a source that may tell anything may tell these
 pub tells_any : {A : Type 0} (told : List A) → Leads (λ (a : Unit {0}) (t : A) (b : Unit {0}). Unit {0}) (tt {0}) told (tt {0})
@@ -23,20 +23,8 @@ module _ {K V X L P W C D : Type 0} (m : Meaning K V X L P W C (Unit {0})) (obse
   -- what was made
   pub made_by : {S : Type 0} (calls : List (Call K V P)) (replies : List (Reply K V P)) (old new : Engine K V S X L P W) (clock clock_after : C) (own own_after : D) → ((moments : List Instant) → Leads m.observes clock moments clock_after → Leads observes own moments own_after)
       → ((ids : List Uuid) → Leads m.gives tt ids tt → Leads gives tt ids tt) → Made m calls replies old clock new clock_after → Made (otherwise m m.tells observes gives) calls replies old own new own_after
-  made_by calls replies old new clock clock_after own own_after reads given h = record {
-    steps = h.steps;
-    is_run = record {
-      calls_made = h.is_run.calls_made;
-      replies_given = h.is_run.replies_given;
-      are_steps = steps_otherwise m m.tells observes gives (PromisedRun m.says m.read) old.state h.steps h.is_run.are_steps;
-      ends = h.is_run.ends;
-      heard = h.is_run.heard;
-      read = reads (readings_of h.steps) h.is_run.read;
-      given = given (ids_of h.steps) h.is_run.given;
-    };
-    listed = listed_otherwise m m.tells observes gives old.state old.write_list new.write_list h.steps h.listed;
-    in_order = h.in_order;
-  }
+  made_by calls replies old new clock clock_after own own_after reads given h =
+      made_otherwise m m.tells observes gives calls replies old new clock clock_after tt tt own own_after tt tt h h.is_run.heard (reads (readings_of h.steps) h.is_run.read) (given (ids_of h.steps) h.is_run.given)
 
 module _ {K V S X L P W C : Type 0} (m : Meaning K V X L P W C (Unit {0})) (calls : List (Call K V P)) (replies : List (Reply K V P)) (old new : Engine K V S X L P W) (clock clock_after : C) where
   -- at some moments

@@ -15,22 +15,20 @@ use Rattle.moka_parts.specs.Records.{Notice, record_of_key, when_listening}
 use Rattle.moka_parts.specs.State.{State, Settings, Meaning, Events, is_disabled}
 use Rattle.moka_parts.specs.Causes.{cause_of_removal}
 use Rattle.moka_parts.specs.Maintenance.{Terms, Course}
-use Rattle.moka_parts.specs.Settling.{IsWellNumbered}
 use Rattle.moka_parts.specs.Surroundings.{Leads, Heard}
 use Rattle.moka_parts.specs.Calls.{no_events, only_notices, Unchanged, InsertStep, GetStep, GetsAt, ContainsStep, RemoveStep, NotifyStep}
 use Rattle.moka_parts.specs.Copies.{IsCopiedAnswer, IsEntryCopy, IsKvEntryCopy, NotifiesOfCopy}
-use Rattle.moka_parts.specs.Visibility.{IsShown}
+use Rattle.moka_parts.specs.Visibility.{IsShown, IsVisible}
 use Rattle.moka_parts.specs.Runs.{Engine, Befalls}
 use Rattle.moka_parts.specs.Listed.{ListedRun}
-use Rattle.moka_parts.proofs.Contained.{gets_what_is_contained}
-use Rattle.moka_parts.proofs.Lookup.{record_of_key_empty}
+use Rattle.moka_parts.proofs.Contained.{not_both}
 use Rattle.moka_drive.specs.Given.{Sees}
 use Rattle.moka_drive.specs.Synchronous.{Made, Makes, Posts, InsertsEntry, GetsValue, RemovesEntry, value_found, hears_clones}
-use Rattle.moka_drive.proofs.Made.{nothing_befalls, made_one, made_then, made_more, befalls_more}
+use Rattle.moka_drive.proofs.Made.{nothing_befalls, made_one, made_then, made_more, befalls_more, unheard}
 use Rattle.moka_drive.proofs.Waiting.{insert_hands_out, insert_hands_back, get_alike}
 use Rattle.moka_drive.proofs.Posting.{listed_run_alike}
 use Rattle.moka_drive.proofs.Limits.{remove_limits}
-use Rattle.moka_drive.proofs.Quiet.{befalls_after, heard_nothing}
+use Rattle.moka_drive.proofs.Quiet.{befalls_then}
 
 -- ---- inserts
 
@@ -75,102 +73,77 @@ module _ {K V : Type 0} (is_key_clone : K → K → Type 0) (is_value_clone : V 
   value_copied (Ok (Some x)) (Ok None) copied = absurd copied
   value_copied (Ok (Some x)) (Err e) copied = absurd copied
 
-  -- what is handed out is there just where what it is a clone of is
-  pub copied_alike : (Q : Bool → Type 0) (a b : Result (Option (Entry K V)) OutOfMemory) → IsCopiedAnswer (IsEntryCopy is_key_clone is_value_clone) a b → IfOk a (λ x. Q (is_some x)) → IfOk (value_found b) (λ x. Q (is_some x))
-  copied_alike Q (Err e) b copied h = rw copied tt
-  copied_alike Q (Ok None) (Ok b) copied h = rw copied h
-  copied_alike Q (Ok None) (Err e) copied h = absurd copied
-  copied_alike Q (Ok (Some x)) (Ok (Some y)) copied h = h
-  copied_alike Q (Ok (Some x)) (Ok None) copied h = absurd copied
-  copied_alike Q (Ok (Some x)) (Err e) copied h = absurd copied
+module _ {K V X P W : Type 0} (eq : K → K → Bool) (says : P → K → V → Bool → Type 0) (is_clone : V → V → Type 0) (s : State K V X P W) (key : K) (now : ℕ) where
+  -- what is seen is a clone of the value of the key's record
+  pub seen_value : (got : Result (Option V) OutOfMemory) → IfOk got (Sees eq says is_clone s key now) → IfOk got (λ found. IfSome found (λ v. (r : Record K V) × (record_of_key eq s.records key ≡ Some r) × is_clone r.value v))
+  seen_value (Ok (Some v)) (r, there, visible, cloned) = (r, there, cloned)
+  seen_value (Ok None) sees = tt
+  seen_value (Err e) sees = tt
 
--- a value that is the record's, and there just where the key is contained, is what is seen
-pub as_seen : {K V X P W : Type 0} (eq : K → K → Bool) (says : P → K → V → Bool → Type 0) (is_clone : V → V → Type 0) (s : State K V X P W) (key : K) (now : ℕ) (got : Result (Option V) OutOfMemory)
-    → IfOk got (λ found. IfSome found (λ v. (r : Record K V) × (record_of_key eq s.records key ≡ Some r) × is_clone r.value v)) → IfOk got (λ found. ContainsStep says eq s key now (is_some found)) → IfOk got (Sees eq says is_clone s key now)
-as_seen eq says is_clone s key now (Ok (Some v)) (r, there, cloned) shown = (r, there, subst (λ o. IsShown says s o now true) there shown, cloned)
-as_seen eq says is_clone s key now (Ok None) value shown = shown
-as_seen eq says is_clone s key now (Err e) value shown = tt
+  -- something is seen just where the key is contained
+  pub seen_shown : (got : Result (Option V) OutOfMemory) → IfOk got (Sees eq says is_clone s key now) → IfOk got (λ found. ContainsStep says eq s key now (is_some found))
+  seen_shown (Ok (Some v)) (r, there, visible, cloned) = subst (λ o. IsShown says s o now true) (sym there) visible
+  seen_shown (Ok None) sees = sees
+  seen_shown (Err e) sees = tt
 
-module _ {K V X P W : Type 0} (eq : K → K → Bool) (says : P → K → V → Bool → Type 0) (read : X → K → V → ℕ → Option ℕ → ℕ → Option ℕ) (Runs : State K V X P W → Terms → Course → List (Notice K V) → State K V X P W → Type 0) where
-  -- a get finds a value just where the key is contained
-  pub found_as_shown : (s : State K V X P W) (key : K) (hash : ℕ) (need_key : Bool) (now : ℕ) (a : Result (Option (Entry K V)) OutOfMemory) (e : Events K V) (t : State K V X P W) → IsWellNumbered eq s → GetStep says read Runs eq s key hash need_key false now a e t → IfOk a (λ x. ContainsStep says eq s key now (is_some x))
-  found_as_shown s key hash need_key now a e t well step = go (is_disabled s.capacity) refl step
+  pub seen_found : (got : Result (Option V) OutOfMemory) → IfOk got (Sees eq says is_clone s key now) → ContainsStep says eq s key now true → IfOk got (λ found. is_some found ≡ true)
+  seen_found (Ok (Some v)) sees shown = refl
+  seen_found (Ok None) sees shown = absurd (not_both_at (record_of_key eq s.records key) shown sees)
     where
-      none_shown : (a : Result (Option (Entry K V)) OutOfMemory) → a ≡ Ok None → ContainsStep says eq s key now false → IfOk a (λ x. ContainsStep says eq s key now (is_some x))
-      none_shown a same h = subst (λ a. IfOk a (λ x. ContainsStep says eq s key now (is_some x))) (sym same) h
+      not_both_at : (o : Option (Record K V)) → IsShown says s o now true → IsShown says s o now false → ⊥
+      not_both_at None shown hidden = true≢false shown
+      not_both_at (Some r) shown hidden = not_both says s r now hidden shown
+  seen_found (Err e) sees shown = tt
 
-      at : (o : Option (Record K V)) → record_of_key eq s.records key ≡ o → (a : Result (Option (Entry K V)) OutOfMemory) → GetsAt says read Runs s o hash need_key false now a e t → IfOk a (λ x. ContainsStep says eq s key now (is_some x))
-      at None there a h = none_shown a h.0 (subst (λ o. IsShown says s o now false) (sym there) refl)
+module _ {K V X P W : Type 0} (says : P → K → V → Bool → Type 0) (read : X → K → V → ℕ → Option ℕ → ℕ → Option ℕ) (Runs : State K V X P W → Terms → Course → List (Notice K V) → State K V X P W → Type 0) (is_key_clone : K → K → Type 0) (is_value_clone : V → V → Type 0)
+    (s : State K V X P W) (o : Option (Record K V)) (none_kept : is_disabled s.capacity ≡ true → o ≡ None) (hash now : ℕ) (a b : Result (Option (Entry K V)) OutOfMemory) (e : Events K V) (t : State K V X P W)
+    (step : MatchBool (is_disabled s.capacity) ((a ≡ Ok None) × Unchanged s e t) (GetsAt says read Runs s o hash false false now a e t)) (copied : IsCopiedAnswer (IsEntryCopy is_key_clone is_value_clone) a b) where
+  -- what a get answers where the key has that record or none: its value just where it is visible
+  abbrev Answers : Result (Option (Entry K V)) OutOfMemory → Type 0
+  Answers (Ok (Some entry)) = (r : Record K V) × (o ≡ Some r) × IsVisible says s r now × (entry.value ≡ r.value)
+  Answers (Ok None) = IsShown says s o now false
+  Answers (Err x) = Unchanged s e t
+
+  answered : Answers a
+  answered = go (is_disabled s.capacity) refl step
+    where
+      hidden_at : (p : Option (Record K V)) → o ≡ p → IsShown says s p now false → IsShown says s o now false
+      hidden_at p there h = subst (λ p. IsShown says s p now false) (sym there) h
+
+      at : (p : Option (Record K V)) → o ≡ p → (a : Result (Option (Entry K V)) OutOfMemory) → GetsAt says read Runs s p hash false false now a e t → Answers a
+      at None there a h = subst Answers (sym h.0) (hidden_at None there refl)
       at (Some r) there (Ok None) h = elim (h.0) [
         | inl ignored ↦ absurd (true≢false (sym ignored))
-        | inr hidden ↦ subst (λ o. IsShown says s o now false) (sym there) hidden
+        | inr hidden ↦ hidden_at (Some r) there hidden
       ]
-      at (Some r) there (Ok (Some entry)) h = subst (λ o. IsShown says s o now true) (sym there) h.0.1
-      at (Some r) there (Err x) h = tt
+      at (Some r) there (Ok (Some entry)) h = (r, there, h.0.1, h.1)
+      at (Some r) there (Err x) h = h.1
 
-      go : (b : Bool) → is_disabled s.capacity ≡ b → MatchBool b ((a ≡ Ok None) × Unchanged s e t) (GetsAt says read Runs s (record_of_key eq s.records key) hash need_key false now a e t) → IfOk a (λ x. ContainsStep says eq s key now (is_some x))
-      go true off h = none_shown a h.0 (subst (λ o. IsShown says s o now false) (sym (ap (λ records. record_of_key eq records key) (well.disabled off).no_records ∙ record_of_key_empty eq key)) refl)
-      go false on h = at (record_of_key eq s.records key) refl a h
+      go : (off : Bool) → is_disabled s.capacity ≡ off → MatchBool off ((a ≡ Ok None) × Unchanged s e t) (GetsAt says read Runs s o hash false false now a e t) → Answers a
+      go true off h = subst Answers (sym h.0) (hidden_at None (none_kept off) refl)
+      go false on h = at o refl a h
 
-  -- and then it is the record's
-  pub found_value : (is_value_clone : V → V → Type 0) (is_key_clone : K → K → Type 0) (s : State K V X P W) (key : K) (hash : ℕ) (now : ℕ) (a b : Result (Option (Entry K V)) OutOfMemory) (e : Events K V) (t : State K V X P W) → GetStep says read Runs eq s key hash false false now a e t → IsCopiedAnswer (IsEntryCopy is_key_clone is_value_clone) a b
-      → IfOk (value_found b) (λ x. IfSome x (λ v. (r : Record K V) × (record_of_key eq s.records key ≡ Some r) × is_value_clone r.value v))
-  found_value is_value_clone is_key_clone s key hash now a b e t step copied = go (is_disabled s.capacity) step
+  -- what holds of a clone of a visible value, and of nothing where none is visible, holds of what is handed out
+  pub handed_out : (Q : Option V → Type 0) → ((r : Record K V) (v : V) → o ≡ Some r → IsVisible says s r now → is_value_clone r.value v → Q (Some v)) → (IsShown says s o now false → Q None) → IfOk (value_found b) Q
+  handed_out Q found none = go a b answered copied
     where
-      nothing : (a b : Result (Option (Entry K V)) OutOfMemory) → a ≡ Ok None → IsCopiedAnswer (IsEntryCopy is_key_clone is_value_clone) a b → IfOk (value_found b) (λ x. IfSome x (λ v. (r : Record K V) × (record_of_key eq s.records key ≡ Some r) × is_value_clone r.value v))
-      nothing (Ok None) (Ok None) same copied = tt
-      nothing (Ok None) (Ok (Some y)) same copied = (let impossible : Some y ≡ None = copied in absurd (cc))
-      nothing (Ok None) (Err x) same copied = tt
-      nothing (Ok (Some y)) b same copied = (let impossible : Ok (Some y) ≡ Ok None = same in absurd (cc))
-      nothing (Err x) b same copied = (let impossible : Err x ≡ Ok None = same in absurd (cc))
-
-      refused : (x : OutOfMemory) (b : Result (Option (Entry K V)) OutOfMemory) → b ≡ Err x → IfOk (value_found b) (λ x. IfSome x (λ v. (r : Record K V) × (record_of_key eq s.records key ≡ Some r) × is_value_clone r.value v))
-      refused x (Err y) same = tt
-      refused x (Ok y) same = (let impossible : Ok y ≡ Err x = same in absurd (cc))
-
-      at : (o : Option (Record K V)) → record_of_key eq s.records key ≡ o → (a b : Result (Option (Entry K V)) OutOfMemory) → GetsAt says read Runs s o hash false false now a e t → IsCopiedAnswer (IsEntryCopy is_key_clone is_value_clone) a b → IfOk (value_found b) (λ x. IfSome x (λ v. (r : Record K V) × (record_of_key eq s.records key ≡ Some r) × is_value_clone r.value v))
-      at None there a b h copied = nothing a b h.0 copied
-      at (Some r) there (Ok None) b h copied = nothing (Ok None) b refl copied
-      at (Some r) there (Err x) b h copied = refused x b copied
-      at (Some r) there (Ok (Some entry)) (Ok (Some y)) h copied = (r, there, subst (λ v. is_value_clone v y.value) h.1 copied.value)
-      at (Some r) there (Ok (Some entry)) (Ok None) h copied = tt
-      at (Some r) there (Ok (Some entry)) (Err x) h copied = tt
-
-      go : (c : Bool) → MatchBool c ((a ≡ Ok None) × Unchanged s e t) (GetsAt says read Runs s (record_of_key eq s.records key) hash false false now a e t) → IfOk (value_found b) (λ x. IfSome x (λ v. (r : Record K V) × (record_of_key eq s.records key ≡ Some r) × is_value_clone r.value v))
-      go true h = nothing a b h.0 copied
-      go false h = at (record_of_key eq s.records key) refl a b h copied
-
-  -- where the key is contained, a value is found
-  pub found_where_shown : (is_value_clone : V → V → Type 0) (is_key_clone : K → K → Type 0) (s : State K V X P W) (key : K) (hash : ℕ) (now : ℕ) (a b : Result (Option (Entry K V)) OutOfMemory) (e : Events K V) (t : State K V X P W) → IsWellNumbered eq s → GetStep says read Runs eq s key hash false false now a e t → IsCopiedAnswer (IsEntryCopy is_key_clone is_value_clone) a b
-      → ContainsStep says eq s key now true → IfOk (value_found b) (λ x. is_some x ≡ true)
-  found_where_shown is_value_clone is_key_clone s key hash now a b e t well step copied shown = copied_alike is_key_clone is_value_clone (λ b. b ≡ true) a b copied (answered a step)
-    where
-      answered : (a : Result (Option (Entry K V)) OutOfMemory) → GetStep says read Runs eq s key hash false false now a e t → IfOk a (λ x. is_some x ≡ true)
-      answered (Err x) step = tt
-      answered (Ok (Some y)) step = refl
-      answered (Ok None) step = gets_what_is_contained says read Runs eq s key hash false now (Ok None) e t true well step shown refl
+      go : (a b : Result (Option (Entry K V)) OutOfMemory) → Answers a → IsCopiedAnswer (IsEntryCopy is_key_clone is_value_clone) a b → IfOk (value_found b) Q
+      go (Err x) b h copied = rw copied tt
+      go (Ok None) (Ok b) h copied = rw copied (none h)
+      go (Ok None) (Err x) h copied = absurd copied
+      go (Ok (Some x)) (Ok (Some y)) (r, there, visible, is) copied = found r y.value there visible (subst (λ v. is_value_clone v y.value) is copied.value)
+      go (Ok (Some x)) (Ok None) h copied = absurd copied
+      go (Ok (Some x)) (Err y) h copied = absurd copied
 
   -- a refused get changes nothing and reads no clock
-  pub unchanged_when_refused : {C : Type 0} (is_value_clone : V → V → Type 0) (is_key_clone : K → K → Type 0) (reads : C → Instant → C → Type 0) (s : State K V X P W) (key : K) (hash : ℕ) (now : ℕ) (a b : Result (Option (Entry K V)) OutOfMemory) (e : Events K V) (t : State K V X P W) (clock clock_after : C) → GetStep says read Runs eq s key hash false false now a e t → IsCopiedAnswer (IsEntryCopy is_key_clone is_value_clone) a b → Leads reads clock e.readings clock_after
-      → OnErr (value_found b) ((t ≡ s) × (clock_after ≡ clock))
-  unchanged_when_refused {C} is_value_clone is_key_clone reads s key hash now a b e t clock clock_after step copied led = go (is_disabled s.capacity) a b step copied
+  pub unchanged_when_refused : {C : Type 0} (reads : C → Instant → C → Type 0) (clock clock_after : C) → Leads reads clock e.readings clock_after → OnErr (value_found b) ((t ≡ s) × (clock_after ≡ clock))
+  unchanged_when_refused reads clock clock_after led = go a b answered copied
     where
-      none : (a b : Result (Option (Entry K V)) OutOfMemory) → a ≡ Ok None → IsCopiedAnswer (IsEntryCopy is_key_clone is_value_clone) a b → OnErr (value_found b) ((t ≡ s) × (clock_after ≡ clock))
-      none a (Ok (Some y)) same copied = tt
-      none a (Ok None) same copied = tt
-      none (Ok x) (Err y) same copied = absurd copied
-      none (Err x) (Err y) same copied = (let impossible : Err x ≡ Ok None = same in absurd (cc))
-
-      at : (o : Option (Record K V)) (a b : Result (Option (Entry K V)) OutOfMemory) → GetsAt says read Runs s o hash false false now a e t → IsCopiedAnswer (IsEntryCopy is_key_clone is_value_clone) a b → OnErr (value_found b) ((t ≡ s) × (clock_after ≡ clock))
-      at o a (Ok (Some y)) h copied = tt
-      at o a (Ok None) h copied = tt
-      at None a (Err y) h copied = none a (Err y) h.0 copied
-      at (Some r) (Ok x) (Err y) h copied = absurd copied
-      at (Some r) (Err x) (Err y) h copied = (h.1.0, subst (λ ts. Leads reads clock ts clock_after) (ap (λ (x : Events K V). x.readings) h.1.1) led)
-
-      go : (c : Bool) (a b : Result (Option (Entry K V)) OutOfMemory) → MatchBool c ((a ≡ Ok None) × Unchanged s e t) (GetsAt says read Runs s (record_of_key eq s.records key) hash false false now a e t) → IsCopiedAnswer (IsEntryCopy is_key_clone is_value_clone) a b → OnErr (value_found b) ((t ≡ s) × (clock_after ≡ clock))
-      go true a b h copied = none a b h.0 copied
-      go false a b h copied = at (record_of_key eq s.records key) a b h copied
+      go : (a b : Result (Option (Entry K V)) OutOfMemory) → Answers a → IsCopiedAnswer (IsEntryCopy is_key_clone is_value_clone) a b → OnErr (value_found b) ((t ≡ s) × (clock_after ≡ clock))
+      go a (Ok (Some y)) h copied = tt
+      go a (Ok None) h copied = tt
+      go (Ok x) (Err y) h copied = absurd copied
+      go (Err x) (Err y) h copied = (h.0, subst (λ ts. Leads reads clock ts clock_after) (ap (λ (x : Events K V). x.readings) h.1) led)
 
 module _ {K V S X L P W C : Type 0} (m : Meaning K V X L P W C (Unit {0})) (key : K) (hash : ℕ) (now : Instant) (old new : Engine K V S X L P W) (clock clock_after : C) where
   -- a get
@@ -189,12 +162,6 @@ module _ {K V L : Type 0} (is_key_clone : K → K → Type 0) (is_value_clone : 
     pub step : NotifyStep settings entry now told notices
     pub heard : Heard (hears_clones is_key_clone is_value_clone tells) before notices after
 
-  heard_none : (before after : Option L) → Heard tells before [] after → Heard (hears_clones is_key_clone is_value_clone tells) before [] after
-  heard_none None None h = h
-  heard_none (Some l) (Some n) h = h
-  heard_none None (Some n) h = absurd h
-  heard_none (Some l) None h = absurd h
-
   heard_one : (key k : K) (value v : V) (cause : RemovalCause) → is_key_clone key k → is_value_clone value v → (before after : Option L) → Heard tells before ((k, v, cause) ∷ []) after → Heard (hears_clones is_key_clone is_value_clone tells) before ((key, value, cause) ∷ []) after
   heard_one key k value v cause same_key same_value None None h = (let impossible : (k, v, cause) ∷ [] ≡ [] = h in absurd (cc))
   heard_one key k value v cause same_key same_value (Some l) (Some n) (mid, step, rest) = (mid, inr (k, v, same_key, same_value, step), rest)
@@ -203,7 +170,7 @@ module _ {K V L : Type 0} (is_key_clone : K → K → Type 0) (is_value_clone : 
 
   -- a notice of clones is heard as the entry's
   pub heard_of_clones : {X W : Type 0} (settings : Settings X W) (entry : KvEntry K V) (now : Instant) (told : Result (Unit {0}) OutOfMemory) (before after : Option L) (notices : List (Notice K V)) → NotifiesOfCopy is_key_clone is_value_clone settings entry now told notices → Heard tells before notices after → IsHeardOf settings entry now told before after
-  heard_of_clones settings entry now (Err e) before after notices (copy, step, copied) heard = record { notices = []; step = (step.0, refl); heard = heard_none before after (subst (λ ns. Heard tells before ns after) step.1 heard) }
+  heard_of_clones settings entry now (Err e) before after notices (copy, step, copied) heard = record { notices = []; step = (step.0, refl); heard = unheard tells (hears_clones is_key_clone is_value_clone tells) before after (subst (λ ns. Heard tells before ns after) step.1 heard) }
   heard_of_clones settings entry now (Ok u) before after notices (copy, step, copied) heard = record { notices = _; step = refl; heard = go settings.listening step }
     where
       cause : RemovalCause
@@ -218,7 +185,7 @@ module _ {K V L : Type 0} (is_key_clone : K → K → Type 0) (is_value_clone : 
           heard_one entry.key copy.key entry.value copy.value cause c.key c.value before after (subst (λ x. Heard tells before ((copy.key, copy.value, x) ∷ []) after) same h)
 
       go : (b : Bool) → notices ≡ when_listening b ((copy.key, copy.value, cause_copied) ∷ []) → Heard (hears_clones is_key_clone is_value_clone tells) before (when_listening b ((entry.key, entry.value, cause) ∷ [])) after
-      go false none = heard_none before after (subst (λ ns. Heard tells before ns after) none heard)
+      go false none = unheard tells (hears_clones is_key_clone is_value_clone tells) before after (subst (λ ns. Heard tells before ns after) none heard)
       go true told = elim copied [
         | inl none ↦ (let impossible : [] ≡ (copy.key, copy.value, cause_copied) ∷ [] = sym none ∙ told in absurd (cc))
         | inr c ↦ one c (subst (λ ns. Heard tells before ns after) told heard)
@@ -249,7 +216,7 @@ module _ {K V S X L P W C : Type 0} (is_key_clone : K → K → Type 0) (is_valu
         let first = befalls_more m (hears_clones is_key_clone is_value_clone m.tells) (λ l k v cause after step. inl step) no_events old mid befell in
         made_one hears old third clock clock (call.Remove key hash (Some now)) (reply.Remove (Some (entry, ticket)) (Some told)) (only_notices h.notices)
         (subst (RemoveStep m.eq old.state key (Some (entry, ticket))) (sym same) step, own, refl)
-        (befalls_after hears.tells h.notices old mid third (heard_nothing m.tells old.listener mid.listener befell.heard) first notice) refl refl tt
+        (befalls_then hears.tells h.notices old mid third first notice) refl refl tt
 
     -- and its ticket posted
     pub took : (new : Engine K V S X L P W) (clock_after : C) → Makes m (Posts now ticket) third clock new clock_after → Makes hears (RemovesEntry key hash now (Some (entry.value, told))) old clock new clock_after

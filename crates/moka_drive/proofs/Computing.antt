@@ -90,30 +90,25 @@ module _ {K V S X L P W C : Type 0} (is_key_clone : K → K → Type 0) (is_clon
     computed_take taken made = in_turn (hears is_key_clone is_clone m) hash_by (GetsValue key (hash_by old.hasher) now own) (λ h. RemovesEntry key h now taken) old mid new c1 c2 c3
         (heard (GetsValue key (hash_by old.hasher) now own) old mid c1 c2 got) made
 
-module _ {K V : Type 0} (is_key_clone : K → K → Type 0) (is_clone : V → V → Type 0) (key : K) where
-  module _ (Q : Result V (InsertRefused K V) → Type 0) (there : Bool) where
-    -- what was put replaced a value
-    pub put_replaced : there ≡ true → (e : CacheEntry K V) → ((put : Result V (InsertRefused K V)) × HandsOutOwn is_clone put (Ok e.value) × Q put)
-        → IsFresh is_key_clone key e × (e.is_old_value_replaced ≡ there)
-        → (put : Result V (InsertRefused K V)) × HandsOutComputedPut is_key_clone is_clone key there put (Ok (ReplacedWith e)) × Q put
-    put_replaced is e (Err r, handed, made) entry = absurd handed
-    put_replaced is e (Ok v, handed, made) entry =
-        (Ok v, rw is (handed, entry.0, entry.1 ∙ is), made)
+module _ {K V : Type 0} (is_key_clone : K → K → Type 0) (is_clone : V → V → Type 0) (key : K) (Q : Result V (InsertRefused K V) → Type 0) where
+  -- what was put replaced a value
+  pub put_replaced : (e : CacheEntry K V) → ((put : Result V (InsertRefused K V)) × HandsOutOwn is_clone put (Ok e.value) × Q put) → IsFresh is_key_clone key e × (e.is_old_value_replaced ≡ true)
+      → (put : Result V (InsertRefused K V)) × HandsOutComputedPut is_key_clone is_clone key true put (Ok (ReplacedWith e)) × Q put
+  put_replaced e (Ok v, handed, made) entry = (Ok v, (handed, entry.0, entry.1), made)
+  put_replaced e (Err r, handed, made) entry = absurd handed
 
-    -- or none
-    pub put_inserted : there ≡ false → (e : CacheEntry K V) → ((put : Result V (InsertRefused K V)) × HandsOutOwn is_clone put (Ok e.value) × Q put)
-        → IsFresh is_key_clone key e × (e.is_old_value_replaced ≡ there)
-        → (put : Result V (InsertRefused K V)) × HandsOutComputedPut is_key_clone is_clone key there put (Ok (Inserted e)) × Q put
-    put_inserted is e (Err r, handed, made) entry = absurd handed
-    put_inserted is e (Ok v, handed, made) entry =
-        (Ok v, rw is (handed, entry.0, entry.1 ∙ is), made)
+  -- or none
+  pub put_inserted : (e : CacheEntry K V) → ((put : Result V (InsertRefused K V)) × HandsOutOwn is_clone put (Ok e.value) × Q put) → IsFresh is_key_clone key e × (e.is_old_value_replaced ≡ false)
+      → (put : Result V (InsertRefused K V)) × HandsOutComputedPut is_key_clone is_clone key false put (Ok (Inserted e)) × Q put
+  put_inserted e (Ok v, handed, made) entry = (Ok v, (handed, entry.0, entry.1), made)
+  put_inserted e (Err r, handed, made) entry = absurd handed
 
   -- or was refused
-  pub put_refused : (Q : Result V (InsertRefused K V) → Type 0) (there : Bool) (r : InsertRefused K V) → ((put : Result V (InsertRefused K V)) × HandsOutOwn is_clone put (Err r) × Q put)
+  pub put_refused : (there : Bool) (r : InsertRefused K V) → ((put : Result V (InsertRefused K V)) × HandsOutOwn is_clone put (Err r) × Q put)
       → (put : Result V (InsertRefused K V)) × HandsOutComputedPut is_key_clone is_clone key there put (Err (compute_refused.Insert r)) × Q put
-  put_refused Q there r (Ok v, handed, made) = absurd handed
-  put_refused Q true r (Err refused, handed, made) = (Err refused, handed, made)
-  put_refused Q false r (Err refused, handed, made) = (Err refused, handed, made)
+  put_refused there r (Ok v, handed, made) = absurd handed
+  put_refused true r (Err refused, handed, made) = (Err refused, handed, made)
+  put_refused false r (Err refused, handed, made) = (Err refused, handed, made)
 
 -- ---- what was taken out
 

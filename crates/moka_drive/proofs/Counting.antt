@@ -24,15 +24,15 @@ use Rattle.moka_drive.specs.Computing.Computed.{Left, LeftNone, Puts, Takes}
 use Rattle.moka_drive.specs.Counters.{after_look_up, after_look_ups, after_get_with}
 use Rattle.moka_drive.specs.Entries.{after_get_or_insert}
 use Rattle.moka_drive.specs.Many.{Each, GetsItem, GetsMany, InsertsItem, InsertsMany, Invalidates, InvalidatesMany, found_by}
-use Rattle.moka_drive.specs.Counted.{is_hit, is_miss, is_look_up, loads_of, AreCounters, IsCounted, CountsCalls, AddsUp, SumsToLookUps}
-use Rattle.moka_drive.specs.Synchronous.{Just, Posts, GetsValue, InsertsMade, GetsOrInserts, GetsOrInsertsIfMade, GetsOrInsertsIfNoError, InsertsEntry, RemovesEntry, value_found}
+use Rattle.moka_drive.specs.Counted.{is_hit, is_miss, is_look_up, loads_of, AreCounters, IsCounted, Counts, CountsCalls, AddsUp, SumsToLookUps}
+use Rattle.moka_drive.specs.Synchronous.{Just, own_run, Posts, GetsValue, InsertsMade, GetsOrInserts, GetsOrInsertsIfMade, GetsOrInsertsIfNoError, InsertsEntry, RemovesEntry, value_found}
 
 -- ---- numbers that saturate
 
 pub no_more : (g n : ℕ) → n ≤ g → n ≡ min (n + 0) g
 no_more g n h = omega (arith, h)
 
-pub more_and_more : (g a n m : ℕ) → min (min (a + n) g + m) g ≡ min (a + (n + m)) g
+more_and_more : (g a n m : ℕ) → min (min (a + n) g + m) g ≡ min (a + (n + m)) g
 more_and_more g a n m = omega arith
 
 pub within : (g n : ℕ) → min n g ≤ g
@@ -44,11 +44,15 @@ from_none g n h = omega (arith, h)
 both_parts : (h m n : ℕ) → h + m ≡ n → (h ≤ n) × (m ≤ n)
 both_parts h m n is = (omega (arith, is), omega (arith, is))
 
-pub zero_plus : (n : ℕ) → 0 + n ≡ n
+zero_plus : (n : ℕ) → 0 + n ≡ n
 zero_plus n = omega arith
 
-pub count_after : {A : Type 0} (p : A → Bool) (x : A) (xs : List A) → count_by p (x ∷ xs) ≡ cond (p x) 1 0 + count_by p xs
+count_after : {A : Type 0} (p : A → Bool) (x : A) (xs : List A) → count_by p (x ∷ xs) ≡ cond (p x) 1 0 + count_by p xs
 count_after p x xs = sum_by-append (λ y. cond (p y) 1 0) (x ∷ []) xs ∙ ap (λ n. n + count_by p xs) (zero_plus (cond (p x) 1 0))
+
+-- what rose by two counts rose by that of both lists
+pub rises_then : {A : Type 0} (p : A → Bool) (xs ys : List A) (a b c : ℕ) → b ≡ plus a (count_by p xs) → c ≡ plus b (count_by p ys) → c ≡ plus a (count_by p (xs ++ ys))
+rises_then p xs ys a b c first second = second ∙ ap (λ x. plus x (count_by p ys)) first ∙ more_and_more greatest a (count_by p xs) (count_by p ys) ∙ ap (plus a) (sym (sum_by-append (λ x. cond (p x) 1 0) xs ys))
 
 -- a clone counts as what was cloned
 clones_count : {V : Type 0} (is_clone : V → V → Type 0) (own answer : Result (Option V) OutOfMemory) (s : Stats) → IsCopiedAnswer is_clone own answer → after_look_up own s ≡ after_look_up answer s
@@ -101,7 +105,7 @@ module _ {K V P : Type 0} where
   }
 
   -- a get alone
-  gets : (s : Stats) (key : K) (hash : ℕ) (now : Instant) (own : Result (Option V) OutOfMemory) (calls : List (Call K V P)) (replies : List (Reply K V P)) → AreCounters s → GetsValue key hash now own calls replies → IsCounted replies 0 s (after_look_up own s)
+  gets : (s : Stats) (key : K) (hash : ℕ) (now : Instant) (own : Result (Option V) OutOfMemory) → Counts {P = P} (GetsValue key hash now own) 0 s (after_look_up own s)
   gets s key hash now own calls replies fit (a, is, c, r) = subst (λ rs. IsCounted rs 0 s (after_look_up own s)) (sym r) (subst (λ o. IsCounted {K = K} {V = V} {P = P} (reply.Get a ∷ []) 0 s (after_look_up o s)) (sym is) (at a))
     where
       at : (a : Result (Option (Entry K V)) OutOfMemory) → IsCounted {K = K} {V = V} {P = P} (reply.Get a ∷ []) 0 s (after_look_up (value_found a) s)
@@ -117,39 +121,32 @@ module _ {K V P : Type 0} where
     loads = refl;
   })
 
-  gets_or_inserts : (s : Stats) (key : K) (hash : ℕ) (now : Instant) (made : Option V) (own : Result V (Option (InsertRefused K V))) (calls : List (Call K V P)) (replies : List (Reply K V P)) → AreCounters s → GetsOrInserts key hash now made own calls replies → IsCounted replies (loads_of made) s (after_get_with made own s)
+  gets_or_inserts : (s : Stats) (key : K) (hash : ℕ) (now : Instant) (made : Option V) (own : Result V (Option (InsertRefused K V))) → Counts {P = P} (GetsOrInserts key hash now made own) (loads_of made) s (after_get_with made own s)
   gets_or_inserts s key hash now None (Ok value) calls replies fit h = gets s key hash now (Ok (Some value)) calls replies fit h
   gets_or_inserts s key hash now None (Err None) calls replies fit (refused, h) = gets s key hash now (Err refused) calls replies fit h
-  gets_or_inserts s key hash now None (Err (Some refused)) calls replies fit h = absurd h
-  gets_or_inserts s key hash now (Some made) (Err None) calls replies fit h = absurd h
   gets_or_inserts s key hash now (Some made) (Ok value) calls replies fit (later, answers, inserts, c, r) = misses_then s replies answers fit r (makes_quietly key hash now made (Ok value) later answers inserts)
   gets_or_inserts s key hash now (Some made) (Err (Some refused)) calls replies fit (later, answers, inserts, c, r) = misses_then s replies answers fit r (makes_quietly key hash now made (Err refused) later answers inserts)
+  gets_or_inserts s key hash now made own calls replies fit h = absurd h
 
   -- a get that misses alone, after which a maker was called
-  misses_only : (s : Stats) (key : K) (hash : ℕ) (now : Instant) (calls : List (Call K V P)) (replies : List (Reply K V P)) → AreCounters s → GetsValue key hash now (Ok None) calls replies → IsCounted replies 1 s (record s { misses = plus s.misses 1; loads = plus s.loads 1 })
+  misses_only : (s : Stats) (key : K) (hash : ℕ) (now : Instant) → Counts {K = K} {V = V} {P = P} (GetsValue key hash now (Ok None)) 1 s (record s { misses = plus s.misses 1; loads = plus s.loads 1 })
   misses_only s key hash now calls replies fit h = let one = gets s key hash now (Ok None) calls replies fit h in record { hits = one.hits; misses = one.misses; loads = refl }
 
-  pub if_made : (s : Stats) (key : K) (hash : ℕ) (now : Instant) (made : Option (Option V)) (own : Result (Option V) (Option (InsertRefused K V))) (calls : List (Call K V P)) (replies : List (Reply K V P)) → AreCounters s → GetsOrInsertsIfMade key hash now made own calls replies → IsCounted replies (loads_of made) s (after_get_with made own s)
+  pub if_made : (s : Stats) (key : K) (hash : ℕ) (now : Instant) (made : Option (Option V)) (own : Result (Option V) (Option (InsertRefused K V))) → Counts {P = P} (GetsOrInsertsIfMade key hash now made own) (loads_of made) s (after_get_with made own s)
   if_made s key hash now None (Ok (Some value)) calls replies fit h = gets_or_inserts s key hash now None (Ok value) calls replies fit h
-  if_made s key hash now None (Ok None) calls replies fit h = absurd h
   if_made s key hash now None (Err refused) calls replies fit h = gets_or_inserts s key hash now None (Err refused) calls replies fit h
   if_made s key hash now (Some None) (Ok None) calls replies fit h = misses_only s key hash now calls replies fit h
-  if_made s key hash now (Some None) (Ok (Some value)) calls replies fit h = absurd h
-  if_made s key hash now (Some None) (Err refused) calls replies fit h = absurd h
   if_made s key hash now (Some (Some made)) (Ok (Some value)) calls replies fit h = gets_or_inserts s key hash now (Some made) (Ok value) calls replies fit h
-  if_made s key hash now (Some (Some made)) (Ok None) calls replies fit h = absurd h
   if_made s key hash now (Some (Some made)) (Err refused) calls replies fit h = gets_or_inserts s key hash now (Some made) (Err refused) calls replies fit h
+  if_made s key hash now made own calls replies fit h = absurd h
 
-  pub if_no_error : {E : Type 0} (s : Stats) (key : K) (hash : ℕ) (now : Instant) (made : Option (Result V E)) (own : Result (Result V E) (Option (InsertRefused K V))) (calls : List (Call K V P)) (replies : List (Reply K V P)) → AreCounters s → GetsOrInsertsIfNoError key hash now made own calls replies → IsCounted replies (loads_of made) s (after_get_with made own s)
+  pub if_no_error : {E : Type 0} (s : Stats) (key : K) (hash : ℕ) (now : Instant) (made : Option (Result V E)) (own : Result (Result V E) (Option (InsertRefused K V))) → Counts {P = P} (GetsOrInsertsIfNoError key hash now made own) (loads_of made) s (after_get_with made own s)
   if_no_error s key hash now None (Ok (Ok value)) calls replies fit h = gets_or_inserts s key hash now None (Ok value) calls replies fit h
-  if_no_error s key hash now None (Ok (Err error)) calls replies fit h = absurd h
   if_no_error s key hash now None (Err refused) calls replies fit h = gets_or_inserts s key hash now None (Err refused) calls replies fit h
   if_no_error s key hash now (Some (Err failed)) (Ok (Err error)) calls replies fit h = misses_only s key hash now calls replies fit h.1
-  if_no_error s key hash now (Some (Err failed)) (Ok (Ok value)) calls replies fit h = absurd h
-  if_no_error s key hash now (Some (Err failed)) (Err refused) calls replies fit h = absurd h
   if_no_error s key hash now (Some (Ok made)) (Ok (Ok value)) calls replies fit h = gets_or_inserts s key hash now (Some made) (Ok value) calls replies fit h
-  if_no_error s key hash now (Some (Ok made)) (Ok (Err error)) calls replies fit h = absurd h
   if_no_error s key hash now (Some (Ok made)) (Err refused) calls replies fit h = gets_or_inserts s key hash now (Some made) (Err refused) calls replies fit h
+  if_no_error s key hash now made own calls replies fit h = absurd h
 
 -- ---- calls after calls
 
@@ -158,8 +155,8 @@ module _ (K V P : Type 0) where
   adds_up = record {
     at_first = λ s fit. counted_quietly s [] fit (record { no_hits = refl; no_misses = refl });
     goes_on = λ replies later m n s t u h k. record {
-      hits = k.hits ∙ ap (λ x. plus x (count_by is_hit later)) h.hits ∙ more_and_more greatest s.hits (count_by is_hit replies) (count_by is_hit later) ∙ ap (plus s.hits) (sym (sum_by-append (λ x. cond (is_hit x) 1 0) replies later));
-      misses = k.misses ∙ ap (λ x. plus x (count_by is_miss later)) h.misses ∙ more_and_more greatest s.misses (count_by is_miss replies) (count_by is_miss later) ∙ ap (plus s.misses) (sym (sum_by-append (λ x. cond (is_miss x) 1 0) replies later));
+      hits = rises_then is_hit replies later s.hits t.hits u.hits h.hits k.hits;
+      misses = rises_then is_miss replies later s.misses t.misses u.misses h.misses k.misses;
       loads = k.loads ∙ ap (λ x. plus x n) h.loads ∙ more_and_more greatest s.loads m n;
     };
     fits = λ replies m s t h. record {
@@ -190,7 +187,7 @@ module _ {K V P : Type 0} where
   just_quietly s c r calls replies fit no_hit no_miss h = counted_quietly s replies fit (subst IsQuiet (sym h.1) (quiet_after r [] no_hit no_miss (record { no_hits = refl; no_misses = refl })))
 
   -- a get, and only if it misses an insert, with no maker
-  puts_or_gets : (s : Stats) (key : K) (hash : ℕ) (now : Instant) (put : Option V) (own : Result V (Option (InsertRefused K V))) (calls : List (Call K V P)) (replies : List (Reply K V P)) → AreCounters s → GetsOrInserts key hash now put own calls replies → IsCounted replies 0 s (after_get_or_insert put own s)
+  puts_or_gets : (s : Stats) (key : K) (hash : ℕ) (now : Instant) (put : Option V) (own : Result V (Option (InsertRefused K V))) → Counts {P = P} (GetsOrInserts key hash now put own) 0 s (after_get_or_insert put own s)
   puts_or_gets s key hash now None (Ok value) calls replies fit h = gets_or_inserts s key hash now None (Ok value) calls replies fit h
   puts_or_gets s key hash now None (Err refused) calls replies fit h = gets_or_inserts s key hash now None (Err refused) calls replies fit h
   puts_or_gets s key hash now (Some put) own calls replies fit h = let one = gets_or_inserts s key hash now (Some put) own calls replies fit h in record { hits = one.hits; misses = one.misses; loads = no_more greatest s.loads fit.loads_fit }
@@ -238,7 +235,7 @@ module _ {K V P : Type 0} where
           subst (λ rs. IsCounted rs 0 s (after_look_ups (map (λ g. g.1) gs) t)) (sym r)
           ((adds_up K V P).goes_on got answers 0 0 s t (after_look_ups (map (λ g. g.1) gs) t) one (gets_each t gs later answers ((adds_up K V P).fits got 0 s t one) rest))
 
-      gets_many : (s : Stats) (keys : List K) (answer : Result (Vec (Option V) Global) (GetManyRefused V)) (calls : List (Call K V P)) (replies : List (Reply K V P)) → AreCounters s → GetsMany is_clone hash_of now keys answer calls replies → IsCounted replies 0 s (after_look_ups (found_by answer) s)
+      gets_many : (s : Stats) (keys : List K) (answer : Result (Vec (Option V) Global) (GetManyRefused V)) → Counts {P = P} (GetsMany is_clone hash_of now keys answer) 0 s (after_look_ups (found_by answer) s)
       gets_many s keys (Ok found) calls replies fit (got, of, is, each) = subst (λ xs. IsCounted replies 0 s (after_look_ups xs s)) (sym is) (gets_each s got calls replies fit each)
       gets_many s keys (Err e) calls replies fit (inl (none, c, r)) =
           subst (λ xs. IsCounted replies 0 s (after_look_ups xs s)) (sym none) (subst (λ rs. IsCounted rs 0 s s) (sym r) ((adds_up K V P).at_first s fit))
@@ -252,19 +249,19 @@ module _ {K V P : Type 0} where
 
 pub counts_calls : (K V P E : Type 0) (is_clone : V → V → Type 0) → CountsCalls K V P E is_clone
 counts_calls K V P E is_clone = record {
-  get = λ s key hash now own answer calls replies fit copied h. subst (IsCounted replies 0 s) (clones_count is_clone own answer s copied) (gets s key hash now own calls replies fit h);
-  get_with = λ s key hash now made own calls replies fit h. gets_or_inserts s key hash now made own calls replies fit h;
-  optionally_get_with = λ s key hash now made own calls replies fit h. if_made s key hash now made own calls replies fit h;
-  try_get_with = λ s key hash now made own calls replies fit h. if_no_error s key hash now made own calls replies fit h;
+  get = λ s key hash now own answer copied calls replies fit h. gets_clone is_clone s key hash now own answer fit copied calls replies h;
+  get_with = gets_or_inserts;
+  optionally_get_with = if_made;
+  try_get_with = if_no_error;
   insert = λ s key hash value now answer calls replies fit h. counted_quietly s replies fit (inserts_quietly key hash value now answer calls replies h);
   remove = λ s key hash now taken calls replies fit h. counted_quietly s replies fit (removes_quietly key hash now taken calls replies h);
-  run_pending_tasks = λ s now more calls replies fit h. counted_quietly s replies fit (subst IsQuiet (sym h.1) (record { no_hits = refl; no_misses = refl }));
+  run_pending_tasks = λ s now more calls replies fit h. just_quietly s (own_run now) (reply.Run more) calls replies fit refl refl h;
   invalidate_all = λ s now calls replies fit h. just_quietly s (call.InvalidateAll now) reply.InvalidateAll calls replies fit refl refl h;
   set_max_capacity = λ s capacity answer calls replies fit h. just_quietly s (call.SetCapacity capacity) (reply.SetCapacity answer) calls replies fit refl refl h;
-  get_or_insert = λ s key hash now put own calls replies fit h. puts_or_gets s key hash now put own calls replies fit h;
-  upsert_with = λ s key hash now own got put calls replies fit copied h. upserts is_clone s key hash now own got fit copied put calls replies h;
-  compute_with = λ s key hash now own got done calls replies fit copied h. computes is_clone s key hash now own got fit copied done calls replies h;
-  get_many = λ s hash_of now keys answer calls replies fit h. gets_many hash_of now is_clone s keys answer calls replies fit h;
+  get_or_insert = puts_or_gets;
+  upsert_with = λ s key hash now own got put copied calls replies fit h. upserts is_clone s key hash now own got fit copied put calls replies h;
+  compute_with = λ s key hash now own got done copied calls replies fit h. computes is_clone s key hash now own got fit copied done calls replies h;
+  get_many = λ s hash_of now. gets_many hash_of now is_clone s;
   insert_many = λ s hash_of now items answer calls replies fit h. counted_quietly s replies fit (inserts_many hash_of now items answer calls replies h);
   invalidate_many = λ s hash_of now keys answer calls replies fit h. counted_quietly s replies fit (invalidates_many hash_of now keys answer calls replies h);
 }

@@ -10,8 +10,7 @@ use Rattle.moka_parts.specs.Calls.{ContainsStep}
 use Rattle.moka_parts.specs.State.{Meaning}
 use Rattle.moka_parts.specs.Runs.{Engine}
 use Rattle.moka_drive.specs.Given.{IsHandedOut}
-use Rattle.moka_drive.specs.Synchronous.{Synchronous, Made, Makes, InsertsMade, GetsOrInserts, HandsOutOwn, IsGotWith}
-use Rattle.moka_drive.specs.declared.error.GetWithRefused.TheVariants.{Lookup}
+use Rattle.moka_drive.specs.Synchronous.{Made, Makes, InsertsMade, GetsOrInserts, HandsOutOwn}
 use Rattle.moka_drive.specs.declared.entry.CacheEntry.{CacheEntry}
 use Rattle.moka_drive.specs.Entries.{HandsOutPut, entry_value}
 use Rattle.moka_drive.proofs.Getting.{got_then, made_keeps_hasher}
@@ -23,19 +22,6 @@ module _ {K V S X L P W C : Type 0} (m : Meaning K V X L P W C (Unit {0})) where
       → Made m calls replies old c1 mid c2 → Makes m (Fit (hash_by mid.hasher)) mid c2 new c3 → Makes m (Fit (hash_by old.hasher)) mid c2 new c3
   same_hash Fit hash_by calls replies old mid new c1 c2 c3 made after =
       subst (λ h. Makes m (Fit (hash_by h)) mid c2 new c3) (made_keeps_hasher m calls replies old mid c1 c2 made) after
-
-module _ {K V S X L P W C : Type 0} (is_clone : V → V → Type 0) (m : Meaning K V X L P W C (Unit {0})) (key : K) (hash : ℕ) (now : Instant) (old new : Synchronous K V S X L P W) (clock clock_after : C) (Answers : V → Type 0) where
-  -- a look-up that found a value
-  pub found_there : (x : V) → (own : Result V (Option (InsertRefused K V))) × IsGotWith m is_clone key hash now old clock new clock_after None own Answers (Ok x) → (v : V) × IsGotWith m is_clone key hash now old clock new clock_after None (Ok v) Answers (Ok x)
-  found_there x (Ok v, came) = (v, came)
-  found_there x (Err None, came) = absurd came.1
-  found_there x (Err (Some refused), came) = absurd came.1
-
-  -- one that was refused
-  pub look_up_refused : (k : K) → (own : Result V (Option (InsertRefused K V))) × IsGotWith m is_clone key hash now old clock new clock_after None own Answers (Err (Lookup k)) → IsGotWith m is_clone key hash now old clock new clock_after None (Err None) Answers (Err (Lookup k))
-  look_up_refused k (Err None, came) = came
-  look_up_refused k (Err (Some refused), came) = absurd came.1
-  look_up_refused k (Ok v, came) = absurd came.1
 
 module _ {K V S X L P W C : Type 0} (is_clone : V → V → Type 0) (m : Meaning K V X L P W C (Unit {0}))
     (key : K) (hash_by : S → ℕ) (now : Instant) (old mid : Engine K V S X L P W) (clock clock_mid : C)

@@ -79,19 +79,20 @@ module _ {K V S X L P W C : Type 0} (is_clone : V → V → Type 0) (m : Meaning
   LooksUp got = (own : Result (Option V) OutOfMemory) × IsCopiedAnswer is_clone own got × Makes m (GetsValue key (hash_by old.engine.hasher) now own) old.engine clock mid.engine clock_mid
 
   -- a look-up that found a value
-  pub got_value : (Answers : V → Type 0) (seen : Option V) (x : V) → seen ≡ Some x → LooksUp (Ok seen) → mid.stats ≡ after_look_up {E = OutOfMemory} (Ok seen) old.stats → Sees m.eq m.says is_clone old.engine.state key now.0 seen → Gets None Answers mid clock_mid (Ok x)
+  pub got_value : (Answers : V → Type 0) (seen : Option V) (x : V) → seen ≡ Some x → LooksUp (Ok seen) → mid.stats ≡ after_look_up {E = OutOfMemory} (Ok seen) old.stats → Sees m.eq m.says is_clone old.engine.state key now.0 seen
+      → (v : V) × IsGotWith m is_clone key (hash_by old.engine.hasher) now old clock mid clock_mid None (Ok v) Answers (Ok x)
   got_value Answers seen x is looks counted sees = go (subst (λ o. LooksUp (Ok o)) is looks)
     where
-      go : LooksUp (Ok (Some x)) → Gets None Answers mid clock_mid (Ok x)
+      go : LooksUp (Ok (Some x)) → (v : V) × IsGotWith m is_clone key (hash_by old.engine.hasher) now old clock mid clock_mid None (Ok v) Answers (Ok x)
       go (Err e, copied, made) = (let impossible : Ok (Some x) ≡ Err e = copied in absurd (cc))
       go (Ok None, copied, made) = (let impossible : Some x ≡ None = copied in absurd (cc))
       go (Ok (Some v), copied, made) =
-          (Ok v, ((λ value e. absurd (cc)), copied, made, subst (λ o. mid.stats ≡ after_look_up {E = OutOfMemory} (Ok o) old.stats) is counted, inl (subst (Sees m.eq m.says is_clone old.engine.state key now.0) is sees), tt))
+          (v, ((λ value e. absurd (cc)), copied, made, subst (λ o. mid.stats ≡ after_look_up {E = OutOfMemory} (Ok o) old.stats) is counted, inl (subst (Sees m.eq m.says is_clone old.engine.state key now.0) is sees), tt))
 
   -- one that was refused
-  pub got_refused : (Answers : V → Type 0) (e : OutOfMemory) → LooksUp (Err e) → mid.stats ≡ old.stats → mid.engine.state ≡ old.engine.state → Gets None Answers mid clock_mid (Err (Lookup key))
+  pub got_refused : (Answers : V → Type 0) (e : OutOfMemory) → LooksUp (Err e) → mid.stats ≡ old.stats → mid.engine.state ≡ old.engine.state → IsGotWith m is_clone key (hash_by old.engine.hasher) now old clock mid clock_mid None (Err None) Answers (Err (Lookup key))
   got_refused Answers e (Ok a, copied, made) counted same = absurd copied
-  got_refused Answers e (Err f, copied, (calls, replies, fits, made)) counted same = (Err None, ((λ value e. absurd (cc)), refl, (calls, replies, (f, fits), made), counted, tt, (refl, same)))
+  got_refused Answers e (Err f, copied, (calls, replies, fits, made)) counted same = ((λ value e. absurd (cc)), refl, (calls, replies, (f, fits), made), counted, tt, (refl, same))
 
   -- one that found nothing, and the call of the maker counted
   module _ (seen : Option V) (none : seen ≡ None) (looks : LooksUp (Ok seen)) (missed : mid.stats ≡ after_look_up {E = OutOfMemory} (Ok seen) old.stats)

@@ -5,18 +5,16 @@ use Rattle.std.specs.Cmp.{IsEquivalence}
 use Rattle.std.specs.FinMap.{get, insert}
 use Rattle.std.proofs.lemmas.Option.{same_Some}
 use Rattle.moka_parts.specs.declared.calls.Entry.{Entry}
-use Rattle.moka_parts.specs.declared.policy.Instant.{Instant}
 use Rattle.moka_parts.specs.declared.records.ReadOperation.{ReadOperation}
 use Rattle.moka_parts.specs.declared.records.Record.{Record}
 use Rattle.moka_parts.specs.declared.error.OutOfMemory.{OutOfMemory}
 use Rattle.moka_parts.specs.declared.error.SendError.{SendError}
-use Rattle.moka_parts.specs.Calls.{GetsAt, GetStep, RecordsRead, after_hit, hit_record, RunStep, RunsIfDue, Unchanged, SendStep}
+use Rattle.moka_parts.specs.Calls.{GetsAt, GetStep, RecordsRead, after_hit, hit_record, RunsIfDue, Unchanged, SendStep}
 use Rattle.moka_parts.specs.Listed.{ListedRun}
 use Rattle.moka_parts.specs.Maintenance.{Terms, Course}
 use Rattle.moka_parts.specs.Records.{Notice, Records, record_of_key}
-use Rattle.moka_parts.specs.Runs.{Engine}
 use Rattle.moka_parts.specs.Settling.{IsValid}
-use Rattle.moka_parts.specs.State.{State, Events, Meaning, is_disabled}
+use Rattle.moka_parts.specs.State.{State, Events, is_disabled}
 use Rattle.moka_parts.proofs.CallsKeep.{record_at_its_number}
 use Rattle.moka_parts.proofs.Lookup.{record_of_key_found, present_key}
 use Rattle.moka_parts.proofs.Maps.{get_inserted, get_past_insert, same_or_apart}
@@ -44,19 +42,6 @@ module _ {K V X P W : Type 0} where
   -- a send
   pub send_keeps : (s : State K V X P W) (ticket : ℕ) (a : Result (Unit {0}) SendError) (t : State K V X P W) → SendStep s ticket a t → KeepsRecords s t
   send_keeps s ticket a t step = kept_by_send (KeepsRecords s) s t (keeps_itself s.records) ticket a (λ o there room. keeps_itself s.records) step
-
-module _ {K V S X L P W C : Type 0} (m : Meaning K V X L P W C (Unit {0})) (old mid : Engine K V S X L P W) (now : Instant) (e : Events K V) (due : RunsIfDue (ListedRun m.says m.read old.write_list mid.write_list) old.state (length old.state.writes) now.0 e mid.state) (ticket : ℕ) where
-  -- a ticket is posted at once
-  pub kept_at_once : (a : Result (Unit {0}) SendError) (new : Engine K V S X L P W) → SendStep mid.state ticket a new.state → KeepsRecords old.state new.state
-  kept_at_once a new step = keeps_then old.state.records mid.state.records new.state.records (due_keeps m.says m.read old.write_list mid.write_list old.state (length old.state.writes) now.0 e mid.state due) (send_keeps mid.state ticket a new.state step)
-
-  -- or after a run
-  pub kept_after_run : (refused : Result (Unit {0}) SendError) (full : Engine K V S X L P W) → SendStep mid.state ticket refused full.state →
-      (more : Bool) (f : Events K V) (emptied : Engine K V S X L P W) → RunStep (ListedRun m.says m.read full.write_list emptied.write_list) full.state (record { now = now.0; limit = None; batch = 384 }) more f emptied.state →
-      (a : Result (Unit {0}) SendError) (new : Engine K V S X L P W) → SendStep emptied.state ticket a new.state → KeepsRecords old.state new.state
-  kept_after_run refused full step more f emptied run a new sent =
-      keeps_then old.state.records full.state.records new.state.records (kept_at_once refused full step)
-      (keeps_then full.state.records emptied.state.records new.state.records (listed_run_keeps m.says m.read full.write_list emptied.write_list full.state (record { now = now.0; limit = None; batch = 384 }) run.0 f.notices emptied.state run.1) (send_keeps emptied.state ticket a new.state sent))
 
 -- ---- a get
 

@@ -1,13 +1,12 @@
 -- Where nothing but time takes a record out, what has not expired stays in runs and sends.
-use Rattle.std.proofs.Common.{◌≡◌, refl, ℕ, zero, suc, ◌<◌, ◌≤◌, Bool, true, false, ◌||◌, nat_lt, List, [], ◌∷◌, ◌++◌, append_assoc, length, Option, Some, None, is_some, Result, Err, ap, sym, subst, ◌∙◌, inl, inr, true≢false, arith, if◌then◌else◌}
-use Rattle.std.specs.Prelude.{Contains}
+use Rattle.std.proofs.Common.{◌≡◌, refl, ℕ, zero, suc, ◌<◌, ◌≤◌, Bool, true, false, ◌||◌, nat_lt, List, [], ◌∷◌, ◌++◌, append_assoc, Option, Some, None, is_some, Result, ap, sym, subst, ◌∙◌, inl, inr, true≢false, arith, if◌then◌else◌}
 use Rattle.std.specs.Option.{option_map_or}
 use Rattle.std.specs.FinMap.{get, remove}
-use Rattle.std.proofs.lemmas.List.Elements.{Contains-append_left, Contains-append_right, Contains-push, Contains-push_cases}
+use Rattle.std.specs.List.{AllByRecursion}
+use Rattle.std.proofs.lemmas.List.Elements.{Contains-push_cases}
 use Rattle.std.proofs.lemmas.Bool.{and_parts, or_parts}
 use Rattle.std.proofs.lemmas.Option.{same_Some}
 use Rattle.moka_parts.specs.declared.policy.EvictionPolicy.{EvictionPolicy}
-use Rattle.moka_parts.specs.declared.policy.Instant.{Instant}
 use Rattle.moka_parts.specs.declared.records.Operation.{Operation}
 use Rattle.moka_parts.specs.declared.records.Operation.TheVariants.{Upsert, Removal}
 use Rattle.moka_parts.specs.declared.records.ReadOperation.{ReadOperation}
@@ -17,26 +16,26 @@ use Rattle.moka_parts.specs.declared.records.Ticketed.{Ticketed}
 use Rattle.moka_parts.specs.declared.notification.RemovalCause.{RemovalCause}
 use Rattle.moka_parts.specs.declared.notification.RemovalCause.TheVariants.{Expired, Explicit, Replaced, Size}
 use Rattle.moka_parts.specs.declared.error.SendError.{SendError}
-use Rattle.moka_parts.specs.Calls.{RunStep, RunsIfDue, SendStep}
+use Rattle.moka_parts.specs.Calls.{SendStep}
 use Rattle.moka_parts.specs.Exact.{weight_of_records}
 use Rattle.moka_parts.specs.Listed.{ListedRun}
 use Rattle.moka_parts.specs.Maintenance.{Choice, Removes, MovesToBack, Drops, Freedom, Terms, Course, Tests, HasCause, AreJustified, is_past_write, is_past_read, is_front, is_over, after_choice, after_choices, kept_by_choices, after_queued_reads, before_steps, at_end, after_run, tests_of, AreFree}
 use Rattle.moka_parts.specs.Reads.{after_reads, after_read}
 use Rattle.moka_parts.specs.Records.{Notice, Records, counted_of, has_room, is_member}
-use Rattle.moka_parts.specs.Runs.{Engine}
 use Rattle.moka_parts.specs.Settling.{IsWaiting}
-use Rattle.moka_parts.specs.State.{State, Contents, Events, Meaning, contents}
+use Rattle.moka_parts.specs.State.{State, Contents, contents}
 use Rattle.moka_parts.specs.Visibility.{has_lapsed, is_expired, is_past_live, is_past_idle, is_written_before, is_read_before}
 use Rattle.moka_parts.specs.Writes.{Fate, Ignored, Overtaken, Counted, Admitted, TooHeavy, Preferred, Refused, with_applied, fate_by_policy, fate_of_newcomer, fate_of_record, after_fate, after_write, after_writes}
 use Rattle.moka_parts.proofs.Maps.{AreApart, same_or_apart, get_removed, get_past_remove}
 use Rattle.moka_parts.proofs.RunKeeps.{reads_keep}
 use Rattle.moka_parts.proofs.Options.{none_by_test}
-use Rattle.moka_parts.proofs.Kept.{kept_by_run, kept_by_due, kept_by_send}
+use Rattle.moka_parts.proofs.Tickets.{all_of}
+use Rattle.moka_parts.proofs.Kept.{kept_by_run, kept_by_send}
 use Rattle.moka_engine.specs.declared.base_cache.restores.Restored.{Restored}
 use Rattle.moka_drive.specs.Saved.{HasRoomFor, IsRoomyFor, KeepsUnexpired, TakesOnlyExpired, WeighAtMost}
 use Rattle.moka_drive.proofs.Alike.{none_kept}
 use Rattle.moka_drive.proofs.Roomy.{FitsIn, enters, enters_again, left, moved_back, taken_out, never_over, newcomer_has_room}
-use Rattle.moka_drive.proofs.Stays.{noted_by}
+use Rattle.moka_drive.proofs.Stays.{noted_by, kept_by_writes}
 
 -- the tests of a run with this capacity, and no invalidation of all
 abbrev tests_with : Option ℕ → ℕ → Option ℕ → Option ℕ → Tests
@@ -54,15 +53,6 @@ module _ (Waits : ℕ → ℕ → Type 0) where
   abbrev WaitsFor : Operation → Type 0
   WaitsFor (Upsert k g w hash) = Waits k w
   WaitsFor (Removal k g) = Unit {0}
-
-  -- each does
-  abbrev AllWait : List Ticketed → Type 0
-  AllWait [] = Unit {0}
-  AllWait (h ∷ hs) = WaitsFor h.operation × AllWait hs
-
-  all_wait : (hs : List Ticketed) → ((h : Ticketed) → Contains hs h → WaitsFor h.operation) → AllWait hs
-  all_wait [] each = tt
-  all_wait (h ∷ hs) each = (each h (Contains-append_left (h ∷ []) hs h (Contains-push [] h)), all_wait hs (λ x there. each x (Contains-append_right (h ∷ []) hs x there)))
 
 module _ {K V : Type 0} (capacity : Option ℕ) (Waits : ℕ → ℕ → Type 0) (limit : ℕ) where
   -- there is no capacity, or it has room for all records
@@ -145,11 +135,6 @@ module _ {K V : Type 0} (capacity : Option ℕ) (Waits : ℕ → ℕ → Type 0)
       found None there = fits
       found (Some q) there = fate_fits policy c k g w hash moved q fits waits there
 
-  writes_fit : (policy : EvictionPolicy) (c : Contents K V) (hs : List Ticketed) (ms : List (List ℕ)) → AllWait Waits hs → FitsAll c → FitsAll (after_writes capacity policy c hs ms)
-  writes_fit policy c [] ms wait fits = fits
-  writes_fit policy c (x ∷ hs) [] wait fits = writes_fit policy (after_write capacity policy c x.operation []) hs [] wait.1 (write_fits policy c x.operation [] wait.0 fits)
-  writes_fit policy c (x ∷ hs) (moved ∷ ms) wait fits = writes_fit policy (after_write capacity policy c x.operation moved) hs ms wait.1 (write_fits policy c x.operation moved wait.0 fits)
-
   -- ---- steps
 
   removal_fits : (c : Contents K V) (k : ℕ) (cause : RemovalCause) (q : Record K V) → get c.records k ≡ Some q → FitsAll c → FitsAll (after_choice c (Removes k cause))
@@ -192,13 +177,6 @@ module _ {K V : Type 0} (capacity : Option ℕ) (Waits : ℕ → ℕ → Type 0)
         found : (o : Option (Record K V)) → get c.records k ≡ o → Stands (option_map_or (λ q. after_fate c k g w moved q (option_map_or (fate_of_record capacity policy c k g w hash) o Ignored)) o c).records
         found None there = stands
         found (Some q) there = fate_lasts c k g w moved q (fate_of_record capacity policy c k g w hash q) there (none_rejected policy c k g w hash q fits waits there) stands
-
-    writes_last : (policy : EvictionPolicy) (c : Contents K V) (hs : List Ticketed) (ms : List (List ℕ)) → AllWait Waits hs → FitsAll c → Stands c.records → Stands (after_writes capacity policy c hs ms).records
-    writes_last policy c [] ms wait fits stands = stands
-    writes_last policy c (x ∷ hs) [] wait fits stands =
-        writes_last policy (after_write capacity policy c x.operation []) hs [] wait.1 (write_fits policy c x.operation [] wait.0 fits) (write_lasts policy c x.operation [] wait.0 fits stands)
-    writes_last policy c (x ∷ hs) (moved ∷ ms) wait fits stands =
-        writes_last policy (after_write capacity policy c x.operation moved) hs ms wait.1 (write_fits policy c x.operation moved wait.0 fits) (write_lasts policy c x.operation moved wait.0 fits stands)
 
     module _ {P : Type 0} (says : P → K → V → Bool → Type 0) (now : ℕ) (live idle : Option ℕ) (fresh : (is_expired r now || is_past_write (tests_with capacity now live idle) r || is_past_read (tests_with capacity now live idle) r) ≡ false) where
       -- a record that leaves is another
@@ -320,8 +298,8 @@ module _ {K V X P W : Type 0} (weighs : W → K → V → ℕ → Type 0) where
     abbrev Fitting : Contents K V → Type 0
     Fitting c = FitsIn s.capacity (WaitsIn s) (weight_of_records s.records) c
 
-    waiting : AllWait (WaitsIn s) s.writes
-    waiting = all_wait (WaitsIn s) s.writes (λ h there. of h.operation (inr (h.ticket, there)))
+    waiting : AllByRecursion (λ (h : Ticketed). WaitsFor (WaitsIn s) h.operation) s.writes
+    waiting = all_of (λ (h : Ticketed). WaitsFor (WaitsIn s) h.operation) s.writes (λ h there. of h.operation (inr (h.ticket, there)))
       where
         of : (o : Operation) → IsWaiting s o → WaitsFor (WaitsIn s) o
         of (Upsert k g w hash) is = (g, hash, is)
@@ -333,7 +311,7 @@ module _ {K V X P W : Type 0} (weighs : W → K → V → ℕ → Type 0) where
     written_fit : Fitting (before_steps s ch)
     written_fit =
         let written = after_writes s.capacity s.settings.policy (after_queued_reads s) s.writes ch.moves in
-        other_sketch s.capacity (WaitsIn s) (weight_of_records s.records) written (before_steps s ch) refl refl (writes_fit s.capacity (WaitsIn s) (weight_of_records s.records) s.settings.policy (after_queued_reads s) s.writes ch.moves waiting queued_fit)
+        other_sketch s.capacity (WaitsIn s) (weight_of_records s.records) written (before_steps s ch) refl refl (kept_by_writes Fitting s.capacity s.settings.policy (WaitsFor (WaitsIn s)) (write_fits s.capacity (WaitsIn s) (weight_of_records s.records) s.settings.policy) (after_queued_reads s) s.writes ch.moves waiting queued_fit)
 
     just : AreJustified says (tests_with s.capacity now s.settings.time_to_live s.settings.time_to_idle) (before_steps s ch) [] ch.steps
     just =
@@ -348,8 +326,10 @@ module _ {K V X P W : Type 0} (weighs : W → K → V → ℕ → Type 0) where
         let fresh = (or_parts (is_expired r now || is_past_live s.settings r now || is_past_idle s.settings r now) (is_written_before s.invalid_before r)
         (or_parts (is_expired r now || is_past_live s.settings r now || is_past_idle s.settings r now || is_written_before s.invalid_before r) (is_read_before s.invalid_before r) lapsed).0).0 in
         let queued : (g : ℕ) × (get (after_queued_reads s).records n ≡ Some (record r { applied = g })) = (r.applied, ap (λ records. get records n) (reads_keep (contents s) s.reads) ∙ there) in
-        let written = writes_last s.capacity (WaitsIn s) (weight_of_records s.records) n r s.settings.policy (after_queued_reads s) s.writes ch.moves waiting queued_fit queued in
-        steps_last s.capacity (WaitsIn s) (weight_of_records s.records) n r says now s.settings.time_to_live s.settings.time_to_idle fresh (before_steps s ch) ch.steps just written_fit written
+        let written = kept_by_writes (λ (c : Contents K V). Fitting c × ((g : ℕ) × (get c.records n ≡ Some (record r { applied = g })))) s.capacity s.settings.policy (WaitsFor (WaitsIn s))
+        (λ c o moved waits h. (write_fits s.capacity (WaitsIn s) (weight_of_records s.records) s.settings.policy c o moved waits h.0, write_lasts s.capacity (WaitsIn s) (weight_of_records s.records) n r s.settings.policy c o moved waits h.0 h.1))
+        (after_queued_reads s) s.writes ch.moves waiting (queued_fit, queued) in
+        steps_last s.capacity (WaitsIn s) (weight_of_records s.records) n r says now s.settings.time_to_live s.settings.time_to_idle fresh (before_steps s ch) ch.steps just written_fit written.1
 
     -- what waits after the run waited before
     still_waits : (o : Operation) → IsWaiting (after_run s ch) o → IsWaiting s o
@@ -370,11 +350,6 @@ module _ {K V X P W : Type 0} (weighs : W → K → V → ℕ → Type 0) where
     pub listed_run_lasts : (s : State K V X P W) (terms : Terms) (course : Course) (notices : List (Notice K V)) (t : State K V X P W) → ListedRun says read before after s terms course notices t → TakesOnlyExpired weighs [] terms.now s t
     listed_run_lasts s terms course notices t run = kept_by_run (TakesOnlyExpired weighs [] terms.now s) s t (keeps_itself [] terms.now s) _ says terms course notices (λ ch enabled free others roomy. run_keeps_all says s terms.now ch free others roomy) run.0
 
-    -- the housekeeper's run, if one is due
-    pub due_lasts : (s : State K V X P W) (queued now : ℕ) (e : Events K V) (t : State K V X P W) → RunsIfDue (ListedRun says read before after) s queued now e t → TakesOnlyExpired weighs [] now s t
-    due_lasts s queued now e t step = kept_by_due (TakesOnlyExpired weighs [] now s) s t (keeps_itself [] now s) (ListedRun says read before after) queued now e
-        (λ course mid housekeeping run. keeps_to [] now s mid _ (record { records = refl; access = refl; settings = refl; capacity = refl; bound = refl; predicates = refl; waits = λ o is. is }) (listed_run_lasts s _ course e.notices mid run)) step
-
   -- ---- a send
 
   pub send_lasts : (now : ℕ) (s : State K V X P W) (ticket : ℕ) (a : Result (Unit {0}) SendError) (t : State K V X P W) → SendStep s ticket a t → TakesOnlyExpired weighs [] now s t
@@ -390,16 +365,3 @@ module _ {K V X P W : Type 0} (weighs : W → K → V → ℕ → Type 0) where
         | inl before ↦ inr (n, before)
         | inr e ↦ inl (ticket, there ∙ ap (λ (h : Ticketed). Some h.operation) e)
       ]
-
-module _ {K V S X L P W C : Type 0} (m : Meaning K V X L P W C (Unit {0})) (old mid : Engine K V S X L P W) (now : Instant) (e : Events K V) (due : RunsIfDue (ListedRun m.says m.read old.write_list mid.write_list) old.state (length old.state.writes) now.0 e mid.state) (ticket : ℕ) where
-  -- a ticket is posted at once
-  pub lasts_at_once : (a : Result (Unit {0}) SendError) (new : Engine K V S X L P W) → SendStep mid.state ticket a new.state → TakesOnlyExpired m.weighs [] now.0 old.state new.state
-  lasts_at_once a new step = keeps_then m.weighs [] [] now.0 old.state mid.state new.state (due_lasts m.weighs m.says m.read old.write_list mid.write_list old.state (length old.state.writes) now.0 e mid.state due) (send_lasts m.weighs now.0 mid.state ticket a new.state step)
-
-  -- or after a run
-  pub lasts_after_run : (error : SendError) (full : Engine K V S X L P W) → SendStep mid.state ticket (Err error) full.state →
-      (more : Bool) (f : Events K V) (emptied : Engine K V S X L P W) → RunStep (ListedRun m.says m.read full.write_list emptied.write_list) full.state (record { now = now.0; limit = None; batch = 384 }) more f emptied.state →
-      (a : Result (Unit {0}) SendError) (new : Engine K V S X L P W) → SendStep emptied.state ticket a new.state → TakesOnlyExpired m.weighs [] now.0 old.state new.state
-  lasts_after_run error full refused more f emptied run a new step =
-      keeps_then m.weighs [] [] now.0 old.state full.state new.state (lasts_at_once (Err error) full refused)
-      (keeps_then m.weighs [] [] now.0 full.state emptied.state new.state (listed_run_lasts m.weighs m.says m.read full.write_list emptied.write_list full.state (record { now = now.0; limit = None; batch = 384 }) run.0 f.notices emptied.state run.1) (send_lasts m.weighs now.0 emptied.state ticket a new.state step))

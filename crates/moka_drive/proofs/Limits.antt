@@ -1,6 +1,5 @@
 -- No call but a change of the capacity changes what limits a cache.
 use Rattle.std.proofs.Common.{◌≡◌, refl, ℕ, Bool, List, [], ◌∷◌, ◌++◌, Option, Some, None, Result, Ok, Err, ap, sym, subst, ◌∙◌, inl, inr}
-use Rattle.std.specs.FinMap.{get}
 use Rattle.moka_parts.specs.declared.calls.Call.{Call}
 use Rattle.moka_parts.specs.declared.error.InsertRefused.{InsertRefused}
 use Rattle.moka_parts.specs.declared.policy.Instant.{Instant}
@@ -19,7 +18,7 @@ use Rattle.moka_parts.proofs.Kept.{kept_by_run}
 use Rattle.moka_drive.specs.Synchronous.{Posts, InsertsEntry, GetsValue, RemovesEntry, InsertsMade, GetsOrInserts, GetsOrInsertsIfMade, GetsOrInsertsIfNoError}
 use Rattle.moka_drive.specs.Computing.{Computed, Computes, Upserts}
 use Rattle.moka_drive.specs.Computing.Computed.{Left, LeftNone, Puts, Takes}
-use Rattle.moka_drive.specs.Limits.{HasSameLimits, SetsNoCapacity, SetNoCapacity, KeepsLimits, CallsSetNoCapacity}
+use Rattle.moka_drive.specs.Limits.{HasSameLimits, SetsNoCapacity, SetNoCapacity, SetNone, KeepsLimits, CallsSetNoCapacity}
 
 module _ {K V X P W : Type 0} where
   alike : (s t : State K V X P W) → t ≡ s → HasSameLimits s t
@@ -43,68 +42,61 @@ module _ {K V X P W : Type 0} where
 -- ---- lists of calls
 
 module _ {K V P : Type 0} where
-  posting_sets_none : (now : Instant) (ticket : Ticket) (calls : List (Call K V P)) (replies : List (Reply K V P)) → Posts now ticket calls replies → SetNoCapacity calls
+  posting_sets_none : (now : Instant) (ticket : Ticket) → SetNone {K = K} {V = V} {P = P} (Posts now ticket)
   posting_sets_none now ticket calls replies (inl (is, replied)) = subst SetNoCapacity (sym is) (tt, (tt, tt))
   posting_sets_none now ticket calls replies (inr (more, is, replied)) = subst SetNoCapacity (sym is) (tt, (tt, (tt, (tt, tt))))
 
   module _ (key : K) (hash : ℕ) (now : Instant) where
-    remove_sets_none : (taken : Option (V × Result (Unit {0}) OutOfMemory)) (calls : List (Call K V P)) (replies : List (Reply K V P)) → RemovesEntry key hash now taken calls replies → SetNoCapacity calls
+    remove_sets_none : (taken : Option (V × Result (Unit {0}) OutOfMemory)) → SetNone {P = P} (RemovesEntry key hash now taken)
     remove_sets_none None calls replies (is, replied) = subst SetNoCapacity (sym is) (tt, tt)
     remove_sets_none (Some answer) calls replies (k, written, read, ticket, posting, posted, posts, is, replied) = subst SetNoCapacity (sym is) (tt, posting_sets_none now ticket posting posted posts)
 
-    insert_sets_none : (value : V) (a : Result (Unit {0}) (InsertRefused K V)) (calls : List (Call K V P)) (replies : List (Reply K V P)) → InsertsEntry key hash value now a calls replies → SetNoCapacity calls
+    insert_sets_none : (value : V) (a : Result (Unit {0}) (InsertRefused K V)) → SetNone {P = P} (InsertsEntry key hash value now a)
     insert_sets_none value (Ok done) calls replies (inl (is, replied)) = subst SetNoCapacity (sym is) (tt, tt)
     insert_sets_none value (Ok done) calls replies (inr (ticket, posting, posted, posts, is, replied)) = subst SetNoCapacity (sym is) (tt, posting_sets_none now ticket posting posted posts)
     insert_sets_none value (Err refused) calls replies (is, replied) = subst SetNoCapacity (sym is) (tt, tt)
 
-    made_sets_none : (made : V) (own : Result V (InsertRefused K V)) (calls : List (Call K V P)) (replies : List (Reply K V P)) → InsertsMade key hash now made own calls replies → SetNoCapacity calls
+    made_sets_none : (made : V) (own : Result V (InsertRefused K V)) → SetNone {P = P} (InsertsMade key hash now made own)
     made_sets_none made (Ok value) calls replies (same, inserts) = insert_sets_none made (Ok tt) calls replies inserts
     made_sets_none made (Err refused) calls replies (inl (refusal, none, replied)) = subst SetNoCapacity (sym none) tt
     made_sets_none made (Err refused) calls replies (inr inserts) = insert_sets_none made (Err refused) calls replies inserts
 
-    get_sets_none : (a : Result (Option V) OutOfMemory) (calls : List (Call K V P)) (replies : List (Reply K V P)) → GetsValue key hash now a calls replies → SetNoCapacity calls
+    get_sets_none : (a : Result (Option V) OutOfMemory) → SetNone {P = P} (GetsValue key hash now a)
     get_sets_none a calls replies (answer, found, is, replied) = subst SetNoCapacity (sym is) (tt, tt)
 
-    get_with_sets_none : (made : Option V) (own : Result V (Option (InsertRefused K V))) (calls : List (Call K V P)) (replies : List (Reply K V P)) → GetsOrInserts key hash now made own calls replies → SetNoCapacity calls
+    get_with_sets_none : (made : Option V) (own : Result V (Option (InsertRefused K V))) → SetNone {P = P} (GetsOrInserts key hash now made own)
     get_with_sets_none None (Ok value) calls replies fits = get_sets_none (Ok (Some value)) calls replies fits
     get_with_sets_none None (Err None) calls replies (refused, fits) = get_sets_none (Err refused) calls replies fits
-    get_with_sets_none None (Err (Some refused)) calls replies fits = absurd fits
-    get_with_sets_none (Some made) (Err None) calls replies fits = absurd fits
     get_with_sets_none (Some made) (Ok value) calls replies (later, answers, inserts, is, replied) = subst SetNoCapacity (sym is) (tt, made_sets_none made (Ok value) later answers inserts)
     get_with_sets_none (Some made) (Err (Some refused)) calls replies (later, answers, inserts, is, replied) = subst SetNoCapacity (sym is) (tt, made_sets_none made (Err refused) later answers inserts)
+    get_with_sets_none made own calls replies fits = absurd fits
 
-    try_get_with_sets_none : {E : Type 0} (made : Option (Result V E)) (own : Result (Result V E) (Option (InsertRefused K V))) (calls : List (Call K V P)) (replies : List (Reply K V P)) → GetsOrInsertsIfNoError key hash now made own calls replies → SetNoCapacity calls
+    try_get_with_sets_none : {E : Type 0} (made : Option (Result V E)) (own : Result (Result V E) (Option (InsertRefused K V))) → SetNone {P = P} (GetsOrInsertsIfNoError key hash now made own)
     try_get_with_sets_none None (Ok (Ok value)) calls replies fits = get_with_sets_none None (Ok value) calls replies fits
-    try_get_with_sets_none None (Ok (Err error)) calls replies fits = absurd fits
     try_get_with_sets_none None (Err refused) calls replies fits = get_with_sets_none None (Err refused) calls replies fits
     try_get_with_sets_none (Some (Err failed)) (Ok (Err error)) calls replies (same, fits) = get_sets_none (Ok None) calls replies fits
-    try_get_with_sets_none (Some (Err failed)) (Ok (Ok value)) calls replies fits = absurd fits
-    try_get_with_sets_none (Some (Err failed)) (Err refused) calls replies fits = absurd fits
     try_get_with_sets_none (Some (Ok made)) (Ok (Ok value)) calls replies fits = get_with_sets_none (Some made) (Ok value) calls replies fits
-    try_get_with_sets_none (Some (Ok made)) (Ok (Err error)) calls replies fits = absurd fits
     try_get_with_sets_none (Some (Ok made)) (Err refused) calls replies fits = get_with_sets_none (Some made) (Err refused) calls replies fits
+    try_get_with_sets_none made own calls replies fits = absurd fits
 
-    if_made_sets_none : (made : Option (Option V)) (own : Result (Option V) (Option (InsertRefused K V))) (calls : List (Call K V P)) (replies : List (Reply K V P)) → GetsOrInsertsIfMade key hash now made own calls replies → SetNoCapacity calls
+    if_made_sets_none : (made : Option (Option V)) (own : Result (Option V) (Option (InsertRefused K V))) → SetNone {P = P} (GetsOrInsertsIfMade key hash now made own)
     if_made_sets_none None (Ok (Some value)) calls replies fits = get_with_sets_none None (Ok value) calls replies fits
-    if_made_sets_none None (Ok None) calls replies fits = absurd fits
     if_made_sets_none None (Err refused) calls replies fits = get_with_sets_none None (Err refused) calls replies fits
     if_made_sets_none (Some None) (Ok None) calls replies fits = get_sets_none (Ok None) calls replies fits
-    if_made_sets_none (Some None) (Ok (Some value)) calls replies fits = absurd fits
-    if_made_sets_none (Some None) (Err refused) calls replies fits = absurd fits
     if_made_sets_none (Some (Some made)) (Ok (Some value)) calls replies fits = get_with_sets_none (Some made) (Ok value) calls replies fits
-    if_made_sets_none (Some (Some made)) (Ok None) calls replies fits = absurd fits
     if_made_sets_none (Some (Some made)) (Err refused) calls replies fits = get_with_sets_none (Some made) (Err refused) calls replies fits
+    if_made_sets_none made own calls replies fits = absurd fits
 
     both_set_none : (cs ds : List (Call K V P)) → SetNoCapacity cs → SetNoCapacity ds → SetNoCapacity (cs ++ ds)
     both_set_none [] ds first second = second
     both_set_none (c ∷ cs) ds first second = (first.0, both_set_none cs ds first.1 second)
 
-    upsert_sets_none : (own : Result (Option V) OutOfMemory) (put : Option (V × Result V (InsertRefused K V))) (calls : List (Call K V P)) (replies : List (Reply K V P)) → Upserts key hash now own put calls replies → SetNoCapacity calls
+    upsert_sets_none : (own : Result (Option V) OutOfMemory) (put : Option (V × Result V (InsertRefused K V))) → SetNone {P = P} (Upserts key hash now own put)
     upsert_sets_none own None calls replies fits = get_sets_none own calls replies fits
     upsert_sets_none own (Some (value, answer)) calls replies (asked, got, later, answers, gets, puts, is, replied) =
         subst SetNoCapacity (sym is) (both_set_none asked later (get_sets_none own asked got gets) (made_sets_none value answer later answers puts))
 
-    compute_sets_none : (own : Result (Option V) OutOfMemory) (done : Option (Computed K V)) (calls : List (Call K V P)) (replies : List (Reply K V P)) → Computes key hash now own done calls replies → SetNoCapacity calls
+    compute_sets_none : (own : Result (Option V) OutOfMemory) (done : Option (Computed K V)) → SetNone {P = P} (Computes key hash now own done)
     compute_sets_none own None calls replies fits = get_sets_none own calls replies fits
     compute_sets_none own (Some Left) calls replies fits = get_sets_none own calls replies fits
     compute_sets_none own (Some LeftNone) calls replies fits = get_sets_none own calls replies fits

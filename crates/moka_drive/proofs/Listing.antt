@@ -6,6 +6,7 @@ use Rattle.std.specs.Ordering.{nat_cmp, eq_by_cmp}
 use Rattle.std.specs.FinMap.{values, entries, entries_sorted, get-entries, is_sorted}
 use Rattle.std.specs.FinMap as finite
 use Rattle.std.proofs.lemmas.List.{length-map, map-set, get_or-map}
+use Rattle.std.proofs.lemmas.List.Elements.{same_from_all_zip}
 use Rattle.std.proofs.lemmas.List.Sorted.{IsPermutation-keeps, IsPermutation-refl, IsPermutation-trans, IsPermutation-sym, Contains-permutation}
 use Rattle.moka_parts.specs.declared.records.Record.{Record}
 use Rattle.moka_parts.specs.Calls.{KeysStep, ScanStep, ScansAt}
@@ -78,23 +79,16 @@ all_values {A} P (e ∷ es) sorted given = (
     finite_case : Bool → Option A
     finite_case b = cond b (Some e.1) (finite.find nat_cmp e.0 es)
 
--- clones that equal what was cloned are the same list
-same_clones : {A : Type 0} (is_clone : A → A → Type 0) → ClonesAreEqual is_clone → (xs ys : List A) → AllZip is_clone xs ys → ys ≡ xs
-same_clones is_clone equal [] [] h = refl
-same_clones is_clone equal [] (y ∷ ys) h = absurd h
-same_clones is_clone equal (x ∷ xs) [] h = absurd h
-same_clones is_clone equal (x ∷ xs) (y ∷ ys) h = ap (λ z. z ∷ ys) (equal x y h.0) ∙ ap (λ zs. x ∷ zs) (same_clones is_clone equal xs ys h.1)
-
 module _ {K V X P W : Type 0} (says : P → K → V → Bool → Type 0) (is_value_clone : V → V → Type 0) (s : State K V X P W) (now : ℕ) (eq : K → K → Bool) where
   -- the record is the one that a look-up of its key finds
-  abbrev IsFound : Record K V → Type 0
-  IsFound r = record_of_key eq s.records r.key ≡ Some r
+  abbrev IsOfItsKey : Record K V → Type 0
+  IsOfItsKey r = record_of_key eq s.records r.key ≡ Some r
 
-  all_found : IsEquivalence eq → IsValid eq s → AllByRecursion IsFound (values s.records)
-  all_found laws valid = all_values IsFound (entries s.records) (entries_sorted s.records) (λ n r there.
+  all_found : IsEquivalence eq → IsValid eq s → AllByRecursion IsOfItsKey (values s.records)
+  all_found laws valid = all_values IsOfItsKey (entries s.records) (entries_sorted s.records) (λ n r there.
       present_key eq s.records r.key laws valid.numbered.numbered.one_each n r (get-entries s.records n ∙ there) (laws.refl r.key))
 
-  shown_by_keys : (rs : List (Record K V)) (found : List (K × V)) → AllByRecursion IsFound rs → LooksUp says is_value_clone s now eq (map (λ (r : Record K V). r.key) rs) found → AreShown says is_value_clone s now rs found
+  shown_by_keys : (rs : List (Record K V)) (found : List (K × V)) → AllByRecursion IsOfItsKey rs → LooksUp says is_value_clone s now eq (map (λ (r : Record K V). r.key) rs) found → AreShown says is_value_clone s now rs found
   shown_by_keys [] found all h = h
   shown_by_keys (r ∷ rs) found all (inl (step, rest)) = inl (subst (λ o. ScansAt says s o now (Ok None)) all.0 step, shown_by_keys rs found all.1 rest)
   shown_by_keys (r ∷ rs) found all (inr (own, copy, rest, step, cloned, is, more)) =
@@ -105,8 +99,8 @@ module _ {K V X P W : Type 0} (says : P → K → V → Bool → Type 0) (is_val
   pub lists_visible : (is_key_clone : K → K → Type 0) → IsEquivalence eq → IsValid eq s → ClonesAreEqual is_key_clone → (found : List (K × V)) → LooksUpClones says is_value_clone s now eq is_key_clone found → ListsVisible says is_value_clone s now found
   lists_visible is_key_clone laws valid equal found (own, copies, order, cloned, looks) =
       let below = permuted_below (λ (r : Record K V). r.key) (values s.records) own order in
-      let all : AllByRecursion IsFound below.0 = all_of IsFound below.0 (λ r inside. of_each IsFound (values s.records) (all_found laws valid) r (Contains-permutation below.0 (values s.records) r (IsPermutation-sym _ _ below.1) inside)) in
-      let keys = subst (λ ks. LooksUp says is_value_clone s now eq ks found) (same_clones is_key_clone equal own copies cloned ∙ sym below.2) looks in
+      let all : AllByRecursion IsOfItsKey below.0 = all_of IsOfItsKey below.0 (λ r inside. of_each IsOfItsKey (values s.records) (all_found laws valid) r (Contains-permutation below.0 (values s.records) r (IsPermutation-sym _ _ below.1) inside)) in
+      let keys = subst (λ ks. LooksUp says is_value_clone s now eq ks found) (same_from_all_zip is_key_clone own copies cloned equal ∙ sym below.2) looks in
       (below.0, below.1, shown_by_keys below.0 found all keys)
 
   -- the keys that the engine tells are clones of all keys

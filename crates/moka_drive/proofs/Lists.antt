@@ -11,7 +11,7 @@ use Rattle.moka_parts.specs.Order.{IsOrderly}
 use Rattle.moka_parts.specs.Runs.{Step, AreOrderly}
 use Rattle.moka_parts.proofs.OrderedDrive.{drives_in_order, empty_in_order, listed_steps_orderly}
 use Rattle.moka_drive.specs.Synchronous.{IsSentInOrder, AreSentInOrder, hears_clones}
-use Rattle.moka_drive.specs.Laws.{IsTimely, AreTimely, GoesOn, KeepsPromises, AgesOut, HearsClones, HearsThemselves, InvalidateAllIsMade, SetMaxCapacityIsMade}
+use Rattle.moka_drive.specs.Laws.{IsTimely, AreTimely, GoesOn, KeepsPromises, MadeRunsAgeOut, HearsClones, HearsThemselves, InvalidateAllIsMade, SetMaxCapacityIsMade}
 use Rattle.moka_drive.proofs.Made.{made_one, made_then, made_more}
 
 module _ {K V X P W : Type 0} where
@@ -37,7 +37,7 @@ module _ {K V X L P W C : Type 0} (S : Type 0) (m : Meaning K V X L P W C (Unit 
   pub keeps_promises : IsEquivalence m.eq → KeepsPromises S m
   keeps_promises laws calls replies old new clock clock_after valid listed made = drives_in_order m calls replies made.steps old new clock clock_after tt tt laws valid listed made.is_run made.listed
 
-  pub ages_out : IsEquivalence m.eq → AgesOut S m
+  pub ages_out : IsEquivalence m.eq → MadeRunsAgeOut S m
   ages_out laws calls replies old new clock clock_after valid empty listed made timely =
       listed_steps_orderly m old.state old.write_list new.write_list made.steps laws valid (λ kept. empty_in_order old.state old.write_list empty (listed kept)) (all_orderly old.state made.steps timely made.in_order) made.listed
 

@@ -18,15 +18,7 @@ use Rattle.moka_parts.specs.Runs.{Engine, Befalls, CallStep, Step, AreSteps, Mak
 use Rattle.moka_parts.specs.Listed.{ListedRun, ListedStep, AreListedSteps}
 use Rattle.moka_parts.proofs.RunsGoOn.{Leads-append, Heard-append, MakesCalls_push}
 use Rattle.moka_parts.proofs.OrderedDrive.{listed_call_promised}
-use Rattle.moka_drive.specs.Synchronous.{Made, IsSentInOrder, AreSentInOrder}
-
--- ---- lists that are the same
-
-pub heads : {A : Type 0} (x y : A) (xs ys : List A) → x ∷ xs ≡ y ∷ ys → x ≡ y
-heads x y xs ys e = cc
-
-pub tails : {A : Type 0} (x y : A) (xs ys : List A) → x ∷ xs ≡ y ∷ ys → xs ≡ ys
-tails x y xs ys e = cc
+use Rattle.moka_drive.specs.Synchronous.{Made, MadeAsking, IsSentInOrder, AreSentInOrder}
 
 -- ---- calls
 
@@ -35,34 +27,45 @@ pub nothing_heard : {K V L : Type 0} (tells : L → K → V → RemovalCause →
 nothing_heard tells None = refl
 nothing_heard tells (Some l) = refl
 
+-- who is told nothing hears the same by any telling
+pub unheard : {K V L : Type 0} (told tells : L → K → V → RemovalCause → L → Type 0) (a b : Option L) → Heard told a [] b → Heard tells a [] b
+unheard told tells None None h = refl
+unheard told tells (Some a) (Some b) h = h
+unheard told tells None (Some b) h = absurd h
+unheard told tells (Some a) None h = absurd h
+
 -- no event befalls a cache that stays the same
 pub nothing_befalls : {K V S X L P W : Type 0} (tells : L → K → V → RemovalCause → L → Type 0) (c : Engine K V S X L P W) → Befalls tells no_events c c
 nothing_befalls tells c = record { kept = refl; heard = nothing_heard tells c.listener; passes = refl; listed = λ none. refl }
 
-module _ {K V S X L P W C : Type 0} (m : Meaning K V X L P W C (Unit {0})) where
-  -- no call was made
-  pub made_nothing : (c : Engine K V S X L P W) (clock : C) → Made m [] [] c clock c clock
-  made_nothing c clock = record {
-    steps = [];
-    is_run = record { calls_made = refl; replies_given = refl; are_steps = tt; ends = refl; heard = nothing_heard m.tells c.listener; read = refl; given = refl };
-    listed = refl;
-    in_order = tt;
-  }
+module _ {K V S X L P W C I : Type 0} (m : Meaning K V X L P W C I) where
+  -- before the first call
+  pub no_calls : (Runs : State K V X P W → Terms → Course → List (Notice K V) → State K V X P W → Type 0) (c : Engine K V S X L P W) (clock : C) (ids : I) → MakesCalls m Runs [] [] [] c clock ids c clock ids
+  no_calls Runs c clock ids = record { calls_made = refl; replies_given = refl; are_steps = tt; ends = refl; heard = nothing_heard m.tells c.listener; read = refl; given = refl }
 
   -- one call was made
-  pub made_one : (old new : Engine K V S X L P W) (clock clock_after : C) (c : Call K V P) (r : Reply K V P) (e : Events K V) → CallStep m (ListedRun m.says m.read old.write_list new.write_list) old.state c r e new.state → Befalls m.tells e old new → Leads m.observes clock e.readings clock_after → e.ids ≡ [] → IsSentInOrder old.state c
-      → Made m (c ∷ []) (r ∷ []) old clock new clock_after
-  unfolding made_nothing
-  made_one old new clock clock_after c r e step befalls read unasked sent =
+  pub asked_one : (old new : Engine K V S X L P W) (clock clock_after : C) (ids ids_after : I) (c : Call K V P) (r : Reply K V P) (e : Events K V) → CallStep m (ListedRun m.says m.read old.write_list new.write_list) old.state c r e new.state → Befalls m.tells e old new → Leads m.observes clock e.readings clock_after → Leads m.gives ids e.ids ids_after
+      → IsSentInOrder old.state c → MadeAsking m (c ∷ []) (r ∷ []) old clock ids new clock_after ids_after
+  asked_one old new clock clock_after ids ids_after c r e step befalls read given sent =
       let x : Step K V X P W = record { call = c; reply = r; events = e; after = new.state } in
       let listed : ListedStep m old.state old.write_list x new.write_list = (step, befalls.listed) in
       let promised = listed_call_promised m old.state old.write_list new.write_list x listed in
       record {
         steps = x ∷ [];
-        is_run = MakesCalls_push m (PromisedRun m.says m.read) [] [] [] old old new clock clock clock_after tt tt tt x (made_nothing old clock).is_run promised refl befalls read (subst (λ ids. Leads m.gives tt ids tt) (sym unasked) refl);
+        is_run = MakesCalls_push m (PromisedRun m.says m.read) [] [] [] old old new clock clock clock_after ids ids ids_after x (no_calls (PromisedRun m.says m.read) old clock ids) promised refl befalls read given;
         listed = (new.write_list, listed, refl);
         in_order = (sent, tt);
       }
+
+module _ {K V S X L P W C : Type 0} (m : Meaning K V X L P W C (Unit {0})) where
+  -- no call was made
+  pub made_nothing : (c : Engine K V S X L P W) (clock : C) → Made m [] [] c clock c clock
+  made_nothing c clock = record { steps = []; is_run = no_calls m (PromisedRun m.says m.read) c clock tt; listed = refl; in_order = tt }
+
+  -- one that asks for no identifiers
+  pub made_one : (old new : Engine K V S X L P W) (clock clock_after : C) (c : Call K V P) (r : Reply K V P) (e : Events K V) → CallStep m (ListedRun m.says m.read old.write_list new.write_list) old.state c r e new.state → Befalls m.tells e old new → Leads m.observes clock e.readings clock_after → e.ids ≡ [] → IsSentInOrder old.state c
+      → Made m (c ∷ []) (r ∷ []) old clock new clock_after
+  made_one old new clock clock_after c r e step befalls read unasked sent = asked_one m old new clock clock_after tt tt c r e step befalls read (subst (λ ids. Leads m.gives tt ids tt) (sym unasked) refl) sent
 
 -- ---- calls after calls
 
@@ -110,17 +113,22 @@ module _ {K V X L P W C I : Type 0} (m : Meaning K V X L P W C I) where
         given = rw (flat_map-append (λ (x : Step K V X P W). x.events.ids) xs ys) (Leads-append m.gives i1 i2 i3 (ids_of xs) (ids_of ys) h.given k.given);
       }
 
-module _ {K V S X L P W C : Type 0} (m : Meaning K V X L P W C (Unit {0})) where
+module _ {K V S X L P W C I : Type 0} (m : Meaning K V X L P W C I) where
   -- what was made after what was made
-  pub made_then : (cs ds : List (Call K V P)) (rs ss : List (Reply K V P)) (old mid new : Engine K V S X L P W) (c1 c2 c3 : C) → Made m cs rs old c1 mid c2 → Made m ds ss mid c2 new c3 → Made m (cs ++ ds) (rs ++ ss) old c1 new c3
-  made_then cs ds rs ss old mid new c1 c2 c3 h k =
+  pub asked_then : (cs ds : List (Call K V P)) (rs ss : List (Reply K V P)) (old mid new : Engine K V S X L P W) (c1 c2 c3 : C) (i1 i2 i3 : I) → MadeAsking m cs rs old c1 i1 mid c2 i2 → MadeAsking m ds ss mid c2 i2 new c3 i3 → MadeAsking m (cs ++ ds) (rs ++ ss) old c1 i1 new c3 i3
+  asked_then cs ds rs ss old mid new c1 c2 c3 i1 i2 i3 h k =
       let state : mid.state ≡ last_state old.state h.steps = ap (λ c. c.state) h.is_run.ends in
       record {
         steps = h.steps ++ k.steps;
-        is_run = calls-append m (PromisedRun m.says m.read) cs ds rs ss h.steps k.steps old mid new c1 c2 c3 tt tt tt h.is_run k.is_run;
+        is_run = calls-append m (PromisedRun m.says m.read) cs ds rs ss h.steps k.steps old mid new c1 c2 c3 i1 i2 i3 h.is_run k.is_run;
         listed = listed-append m old.state old.write_list mid.write_list new.write_list h.steps k.steps h.listed (subst (λ s. AreListedSteps m s mid.write_list k.steps new.write_list) state k.listed);
         in_order = sent-append old.state h.steps k.steps h.in_order (subst (λ s. AreSentInOrder s k.steps) state k.in_order);
       }
+
+module _ {K V S X L P W C : Type 0} (m : Meaning K V X L P W C (Unit {0})) where
+  -- the same where no identifiers are asked for
+  pub made_then : (cs ds : List (Call K V P)) (rs ss : List (Reply K V P)) (old mid new : Engine K V S X L P W) (c1 c2 c3 : C) → Made m cs rs old c1 mid c2 → Made m ds ss mid c2 new c3 → Made m (cs ++ ds) (rs ++ ss) old c1 new c3
+  made_then cs ds rs ss old mid new c1 c2 c3 h k = asked_then m cs ds rs ss old mid new c1 c2 c3 tt tt tt h k
 
 -- ---- another way of telling, by which a listener may hear more
 
@@ -164,13 +172,23 @@ module _ {K V X L P W C I D J : Type 0} (m : Meaning K V X L P W C I) (tells : L
   step_otherwise Runs s t (call.SetCapacity capacity) (reply.SetCapacity a) e h = h
   step_otherwise Runs s t c r e h = absurd h
 
-  pub steps_otherwise : (Runs : State K V X P W → Terms → Course → List (Notice K V) → State K V X P W → Type 0) (s : State K V X P W) (xs : List (Step K V X P W)) → AreSteps m Runs s xs → AreSteps otherwise Runs s xs
+  steps_otherwise : (Runs : State K V X P W → Terms → Course → List (Notice K V) → State K V X P W → Type 0) (s : State K V X P W) (xs : List (Step K V X P W)) → AreSteps m Runs s xs → AreSteps otherwise Runs s xs
   steps_otherwise Runs s [] h = tt
   steps_otherwise Runs s (x ∷ xs) h = (step_otherwise Runs s x.after x.call x.reply x.events h.0, steps_otherwise Runs x.after xs h.1)
 
-  pub listed_otherwise : (s : State K V X P W) (before last : List ℕ) (xs : List (Step K V X P W)) → AreListedSteps m s before xs last → AreListedSteps otherwise s before xs last
+  listed_otherwise : (s : State K V X P W) (before last : List ℕ) (xs : List (Step K V X P W)) → AreListedSteps m s before xs last → AreListedSteps otherwise s before xs last
   listed_otherwise s before last [] h = h
   listed_otherwise s before last (x ∷ xs) (after, step, rest) = (after, (step_otherwise (ListedRun m.says m.read before after) s x.after x.call x.reply x.events step.0, step.1), listed_otherwise x.after after last xs rest)
+
+  -- what was made, where this was heard, read and given otherwise
+  pub made_otherwise : {S : Type 0} (calls : List (Call K V P)) (replies : List (Reply K V P)) (old new : Engine K V S X L P W) (clock clock_after : C) (ids ids_after : I) (own own_after : D) (source source_after : J) → (h : MadeAsking m calls replies old clock ids new clock_after ids_after)
+      → Heard tells old.listener (notices_of h.steps) new.listener → Leads observes own (readings_of h.steps) own_after → Leads gives source (ids_of h.steps) source_after → MadeAsking otherwise calls replies old own source new own_after source_after
+  made_otherwise calls replies old new clock clock_after ids ids_after own own_after source source_after h heard read given = record {
+    steps = h.steps;
+    is_run = record { calls_made = h.is_run.calls_made; replies_given = h.is_run.replies_given; are_steps = steps_otherwise (PromisedRun m.says m.read) old.state h.steps h.is_run.are_steps; ends = h.is_run.ends; heard = heard; read = read; given = given };
+    listed = listed_otherwise old.state old.write_list new.write_list h.steps h.listed;
+    in_order = h.in_order;
+  }
 
 module _ {K V S X L P W C : Type 0} (m : Meaning K V X L P W C (Unit {0})) (tells : L → K → V → RemovalCause → L → Type 0) (more : (l : L) (k : K) (v : V) (cause : RemovalCause) (after : L) → m.tells l k v cause after → tells l k v cause after) where
   -- what befalls a cache
@@ -179,17 +197,4 @@ module _ {K V S X L P W C : Type 0} (m : Meaning K V X L P W C (Unit {0})) (tell
 
   -- what was made
   pub made_more : (calls : List (Call K V P)) (replies : List (Reply K V P)) (old new : Engine K V S X L P W) (clock clock_after : C) → Made m calls replies old clock new clock_after → Made (record m { tells = tells }) calls replies old clock new clock_after
-  made_more calls replies old new clock clock_after h = record {
-    steps = h.steps;
-    is_run = record {
-      calls_made = h.is_run.calls_made;
-      replies_given = h.is_run.replies_given;
-      are_steps = steps_otherwise m tells m.observes m.gives (PromisedRun m.says m.read) old.state h.steps h.is_run.are_steps;
-      ends = h.is_run.ends;
-      heard = heard_more m.tells tells more old.listener new.listener (notices_of h.steps) h.is_run.heard;
-      read = h.is_run.read;
-      given = h.is_run.given;
-    };
-    listed = listed_otherwise m tells m.observes m.gives old.state old.write_list new.write_list h.steps h.listed;
-    in_order = h.in_order;
-  }
+  made_more calls replies old new clock clock_after h = made_otherwise m tells m.observes m.gives calls replies old new clock clock_after tt tt clock clock_after tt tt h (heard_more m.tells tells more old.listener new.listener (notices_of h.steps) h.is_run.heard) h.is_run.read h.is_run.given

@@ -7,13 +7,12 @@ use Rattle.std.specs.List.{IsDistinct, sum_by}
 use Rattle.std.proofs.lemmas.List.Elements.{Contains-append_left, Contains-append_right, Contains-append_cases, Contains-push, Contains-push_cases}
 use Rattle.std.proofs.lemmas.Option.{same_Some}
 use Rattle.moka_parts.specs.declared.records.Member.{Member}
-use Rattle.moka_parts.specs.declared.records.Operation.{Operation}
 use Rattle.moka_parts.specs.declared.records.Operation.TheVariants.{Upsert}
 use Rattle.moka_parts.specs.declared.records.Record.{Record}
 use Rattle.moka_parts.specs.Copies.{ClonesAreEqual}
 use Rattle.moka_parts.specs.Exact.{weight_of_records}
 use Rattle.moka_parts.specs.Records.{counted_of, is_member, numbers_of}
-use Rattle.moka_parts.specs.Settling.{IsValid, IsWaiting}
+use Rattle.moka_parts.specs.Settling.{IsValid}
 use Rattle.moka_parts.specs.State.{State, Settings}
 use Rattle.moka_parts.specs.Time.{has_passed, deadline, moment_of}
 use Rattle.moka_parts.specs.Visibility.{is_expired, is_past_live, is_past_idle, is_written_before, is_read_before, IsVisible}
@@ -25,8 +24,9 @@ use Rattle.moka_parts.proofs.Values.{values-empty}
 use Rattle.moka_parts.proofs.Surplus.{none_of_five}
 use Rattle.moka_engine.specs.declared.base_cache.restores.Restored.{Restored}
 use Rattle.moka_engine.specs.Snapshots.{Seen, IsListed, scene_of}
-use Rattle.moka_drive.specs.Saved.{AreAsWeighed, AreSaved, IsOfItem, IsSaved, IsRestored, HasRoomFor, IsMadeAgain, IsFound, AnswerAlike, MadeAgainAnswersAlike, EmptyHasRoom, has_expired}
+use Rattle.moka_drive.specs.Saved.{AreAsWeighed, AreSaved, IsOfItem, IsSaved, IsRestored, HasRoomFor, IsMadeAgain, IsSeen, AnswerAlike, MadeAgainAnswersAlike, EmptyHasRoom, has_expired}
 use Rattle.moka_drive.proofs.Answering.{answers_alike}
+use Rattle.moka_drive.proofs.Membership.{none_waits}
 
 -- ---- what has not expired had not expired before
 
@@ -34,7 +34,6 @@ not_passed_before : (o : Option ℕ) (t u : ℕ) → t ≤ u → has_passed o u 
 not_passed_before None t u le none = refl
 not_passed_before (Some d) t u le none = grind arith
 
--- none of five tests that all fail holds
 -- the entry was saved of the record
 record IsSavedOf {K V : Type 0} (is_value_clone : V → V → Type 0) (r : Record K V) (item : Restored K V) : Type 0 where
   key : item.key ≡ r.key
@@ -115,7 +114,7 @@ module _ {K V X P W : Type 0} (weighs : W → K → V → ℕ → Type 0) (eq : 
           answers_alike X W says first second r q saved now live idle (d.hides.bound ∙ d.roomy.bound) (d.hides.predicates d.roomy.predicates)
           (put_back.written_is ∙ of.written) (put_back.read_is ∙ of.read) (put_back.expires_is ∙ of.expires) visible
 
-      forth : (r : Record K V) → IsFound eq says first key now r → (q : Record K V) × IsFound eq says second key now q × is_value_clone r.value q.value
+      forth : (r : Record K V) → IsSeen eq says first key now r → (q : Record K V) × IsSeen eq says second key now q × is_value_clone r.value q.value
       forth r (found, visible) =
           let at = record_of_key_found eq first.records key r found in
           let seen = visible_before first r saved now late_saved visible in
@@ -129,7 +128,7 @@ module _ {K V X P W : Type 0} (weighs : W → K → V → ℕ → Type 0) (eq : 
             subst (is_value_clone r.value) (sym restored.of_item.value_is) of.value,
           )
 
-      back : (q : Record K V) → IsFound eq says second key now q → (r : Record K V) × IsFound eq says first key now r × is_value_clone r.value q.value
+      back : (q : Record K V) → IsSeen eq says second key now q → (r : Record K V) × IsSeen eq says first key now r × is_value_clone r.value q.value
       back q (found, visible) = elim (d.adds at.0 q at.1) [
         | inl (r, old, same) ↦ absurd (nothing_at at.0 r (ap (λ records. get records at.0) (sym d.no_records) ∙ old))
         | inr (item, inside, put_back) ↦
@@ -163,15 +162,9 @@ empty_has_room {K} {V} {W} X P weighs items start capacity total none bound pred
     light : weight_of_records start.records ≡ 0
     light = ap weight_of_records none.records ∙ ap (sum_by (λ (r : Record K V). r.weight)) values-empty
 
-    nothing_waits : (o : Operation) → IsWaiting start o → ⊥
-    nothing_waits o (inl (ticket, at)) = nothing_at ticket o (ap (λ m. get m ticket) (sym none.outstanding) ∙ at)
-    nothing_waits o (inr (ticket, there)) =
-        let inside = subst (λ hs. Contains hs (record { ticket = ticket; operation = o })) none.writes there in
-        let below : inside.0 < 0 = inside.1 in absurd (omega arith)
-
     weighed : AreAsWeighed start
     weighed = record {
       once = subst (λ members. IsDistinct (◌==◌) (numbers_of members)) (sym none.access) no_members_once;
       counted = λ n w counted. (let nobody : None ≡ Some w = ap (counted_of n) (sym none.access) ∙ counted in absurd (cc));
-      waiting = λ n g w hash waits. absurd (nothing_waits (Upsert n g w hash) waits);
+      waiting = λ n g w hash waits. absurd (none_waits start none.outstanding none.writes (Upsert n g w hash) waits);
     }

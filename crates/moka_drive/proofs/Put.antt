@@ -1,9 +1,7 @@
 -- What an insert puts into the map is there when its ticket was posted.
-use Rattle.std.proofs.Common.{◌≡◌, refl, ℕ, ◌<◌, ◌≤◌, Bool, true, false, List, [], ◌∷◌, Option, Some, None, Ok, ap, sym, subst, ◌∙◌, inr, arith}
-use Rattle.std.specs.Prelude.{Contains}
+use Rattle.std.proofs.Common.{◌≡◌, refl, ℕ, ◌<◌, ◌≤◌, Bool, true, false, Option, Some, None, Ok, ap, sym, subst, ◌∙◌, inr, arith}
 use Rattle.std.specs.Cmp.{IsEquivalence}
 use Rattle.std.specs.FinMap.{get}
-use Rattle.std.proofs.lemmas.List.Elements.{Contains-append_left, Contains-append_right, Contains-push}
 use Rattle.moka_parts.specs.declared.policy.Instant.{Instant}
 use Rattle.moka_parts.specs.declared.records.Record.{Record}
 use Rattle.moka_parts.specs.declared.records.Operation.{Operation}
@@ -18,11 +16,16 @@ use Rattle.moka_parts.specs.Calls.{new_record, updated_record, InsertsAt, Insert
 use Rattle.moka_parts.specs.Visibility.{has_lapsed, NoneCovers, IsShown}
 use Rattle.moka_parts.proofs.Maps.{get_inserted}
 use Rattle.moka_parts.proofs.Lookup.{record_of_key_found, present_key}
+use Rattle.moka_parts.proofs.Tickets.{all_of}
 use Rattle.moka_drive.specs.Unsent.{IsHeld, IsOlder, AreOlder, IsThere, ShowsWrites}
 
-pub each_older : {K V : Type 0} (n : ℕ) (r : Record K V) (hs : List Ticketed) → ((h : Ticketed) → Contains hs h → IsOlder n r h.operation) → AreOlder n r hs
-each_older n r [] each = tt
-each_older n r (h ∷ hs) each = (each h (Contains-append_left (h ∷ []) hs h (Contains-push [] h)), each_older n r hs (λ x there. each x (Contains-append_right (h ∷ []) hs x there)))
+-- what waits is older than a record at the next number
+pub next_is_newest : {K V X P W : Type 0} (eq : K → K → Bool) (s : State K V X P W) → IsValid eq s → (r : Record K V) → AreOlder s.next_number r s.writes
+next_is_newest eq s valid r = all_of (λ (h : Ticketed). IsOlder s.next_number r h.operation) s.writes (λ h there. one h.operation (inr (h.ticket, there)))
+  where
+    one : (o : Operation) → IsWaiting s o → IsOlder s.next_number r o
+    one (Upsert k g w x) waiting = λ same. let below : k < s.next_number = valid.numbered.numbered.known (Upsert k g w x) waiting in absurd (omega arith)
+    one (Removal k g) waiting = tt
 
 -- no expiry is set, and no record has one of its own
 abbrev pub IsBare : {K V X P W : Type 0} → State K V X P W → Type 0
@@ -45,32 +48,25 @@ module _ {K V X P W : Type 0} (eq : K → K → Bool) (laws : IsEquivalence eq) 
   pub put_by_insert : (created : X → K → V → ℕ → Option ℕ) (updated : X → K → V → ℕ → Option ℕ → Option ℕ) (weighs : W → K → V → ℕ → Type 0) (s : State K V X P W) (hash : ℕ) (a : Ticket × Instant) (e : Events K V) (t : State K V X P W) → IsValid eq s → InsertStep created updated weighs eq s key hash value now (Ok a) e t → IsPut (IsBare s) t
   put_by_insert created updated weighs s hash a e t valid step = go (record_of_key eq s.records key) refl step
     where
-      waits : (h : Ticketed) → Contains s.writes h → IsWaiting s h.operation
-      waits h there = inr (h.ticket, there)
-
       go : (o : Option (Record K V)) → record_of_key eq s.records key ≡ o → InsertsAt created updated weighs s o key hash value now (Ok a) e t → IsPut (IsBare s) t
       go None absent step =
           let r : Record K V = new_record created updated s key hash value now step.0 in
           subst (IsPut (IsBare s)) (sym step.5) (record {
             made = r;
             held = record { applied = 0; there = get_inserted s.records s.next_number r; below = omega arith };
-            older = each_older s.next_number r s.writes (λ h there. new_older h.operation (waits h there));
+            older = next_is_newest eq s valid r;
             alike = laws.refl key;
             value_is = refl;
             written_is = refl;
             read_is = refl;
             unexpiring = λ bare. ap (λ x. expires_at_first created x key value now.0) bare.0;
           })
-        where
-          new_older : (o : Operation) → IsWaiting s o → IsOlder s.next_number (new_record created updated s key hash value now step.0) o
-          new_older (Upsert k g w x) waiting = λ same. let below : k < s.next_number = valid.numbered.numbered.known (Upsert k g w x) waiting in absurd (omega arith)
-          new_older (Removal k g) waiting = tt
       go (Some old) found step =
           let r : Record K V = updated_record created updated s old key value now step.0 in
           subst (IsPut (IsBare s)) (sym step.5) (record {
             made = r;
             held = record { applied = old.applied; there = get_inserted s.records old.number r; below = (let limit = tracked.applied in omega arith) };
-            older = each_older old.number r s.writes (λ h there. update_older h.operation (waits h there));
+            older = all_of (λ (h : Ticketed). IsOlder old.number r h.operation) s.writes (λ h there. update_older h.operation (inr (h.ticket, there)));
             alike = at.2;
             value_is = refl;
             written_is = refl;

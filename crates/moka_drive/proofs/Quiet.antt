@@ -1,5 +1,5 @@
--- Before the first call, and where nothing happens.
-use Rattle.std.proofs.Common.{◌≡◌, refl, ap, sym, subst, ◌∙◌, ℕ, Bool, true, false, MatchBool, List, [], length, Option, Some, None, Result, Ok, Err, IfOk, IfErr, option_map}
+-- Calls in which nothing happens.
+use Rattle.std.proofs.Common.{◌≡◌, refl, ap, sym, subst, ◌∙◌, ℕ, List, [], Option, Some, None, Result, Ok, Err, IfOk, IfErr, option_map}
 use Rattle.std.proofs.lemmas.List.Elements.{same_from_all_zip}
 use Rattle.std.specs.List.{AllZip}
 use Rattle.std.specs.declared.alloc.Global.{Global}
@@ -9,25 +9,15 @@ use Rattle.moka_parts.specs.declared.calls.Reply.{Reply}
 use Rattle.moka_parts.specs.declared.calls.Reply.TheVariants as reply
 use Rattle.moka_parts.specs.declared.error.OutOfMemory.{OutOfMemory}
 use Rattle.moka_parts.specs.declared.notification.RemovalCause.{RemovalCause}
-use Rattle.moka_parts.specs.Records.{Notice, record_of_key}
-use Rattle.moka_parts.specs.declared.calls.Entry.{Entry}
-use Rattle.moka_parts.specs.declared.records.ReadOperation.{ReadOperation}
-use Rattle.moka_parts.specs.declared.records.ReadOperation.TheVariants.{Miss}
-use Rattle.moka_parts.specs.declared.records.Record.{Record}
-use Rattle.moka_parts.specs.Housekeeping.{is_due}
-use Rattle.moka_parts.specs.State.{State, Events, Meaning, is_disabled}
+use Rattle.moka_parts.specs.Records.{Notice}
+use Rattle.moka_parts.specs.State.{State, Meaning}
 use Rattle.moka_parts.specs.Maintenance.{Terms, Course}
 use Rattle.moka_parts.specs.Surroundings.{Heard}
-use Rattle.moka_parts.specs.Calls.{no_events, only_notices, GetsAt, GetStep, after_hit, hit_at, hit_operation, KeeperRun, KeysStep, RecordsRead, Unchanged}
+use Rattle.moka_parts.specs.Calls.{no_events, only_notices, KeysStep}
 use Rattle.moka_parts.specs.Copies.{ClonesAreEqual, IsCopy}
-use Rattle.moka_parts.specs.Runs.{Engine, Befalls, CallStep, MakesCalls}
+use Rattle.moka_parts.specs.Runs.{Engine, Befalls, CallStep}
 use Rattle.moka_parts.proofs.Copies.{copy-same}
 use Rattle.moka_drive.specs.Replies.{TellsPending}
-use Rattle.moka_drive.proofs.Made.{nothing_heard}
-
--- before the first call
-pub no_calls : {K V S X L P W C I : Type 0} (m : Meaning K V X L P W C I) (Runs : State K V X P W → Terms → Course → List (Notice K V) → State K V X P W → Type 0) (c : Engine K V S X L P W) (clock : C) (ids : I) → MakesCalls m Runs [] [] [] c clock ids c clock ids
-no_calls m Runs c clock ids = record { calls_made = refl; replies_given = refl; are_steps = tt; ends = refl; heard = nothing_heard m.tells c.listener; read = refl; given = refl }
 
 -- where clones of keys are equal, a list of clones is one of the keys themselves
 own_keys : {K V X P W : Type 0} (is_clone : K → K → Type 0) → ClonesAreEqual is_clone → (s : State K V X P W) (segment : ℕ) (own keys : Option (List K)) → KeysStep s segment (Ok own) → IsCopy (AllZip is_clone) own keys → KeysStep s segment (Ok keys)
@@ -39,29 +29,6 @@ pub keys_step : {K V X L P W C I : Type 0} (is_clone : K → K → Type 0) → C
 keys_step is_clone equal m Runs s segment (Ok (Some keys)) listed refused = (own_keys is_clone equal s segment listed.0 (Some keys.items) listed.1 listed.2, (refl, refl))
 keys_step is_clone equal m Runs s segment (Ok None) listed refused = (own_keys is_clone equal s segment listed.0 None listed.1 listed.2, (refl, refl))
 keys_step is_clone equal m Runs s segment (Err e) listed refused = (refused, (refl, refl))
-
-module _ {K V X P W : Type 0} (Runs : State K V X P W → Terms → Course → List (Notice K V) → State K V X P W → Type 0) where
-  recording_asks_nothing : (s : State K V X P W) (now : ℕ) (r : ReadOperation) (e : Events K V) (t : State K V X P W) → RecordsRead Runs s now r e t → e.ids ≡ []
-  recording_asks_nothing s now r e t (mid, run, queued) = go (is_due s.housekeeping (length s.reads) now) run
-    where
-      go : (b : Bool) → MatchBool b (KeeperRun Runs s now e mid) (Unchanged s e mid) → e.ids ≡ []
-      go true (answer, before, (course, ran, same, told), changed) = ap (λ (x : Events K V). x.ids) told
-      go false (same, none) = ap (λ (x : Events K V). x.ids) none
-
-  -- a get asks for no identifiers
-  pub get_asks_nothing : (says : P → K → V → Bool → Type 0) (read : X → K → V → ℕ → Option ℕ → ℕ → Option ℕ) (eq : K → K → Bool) (s : State K V X P W) (key : K) (hash : ℕ) (need_key ignored : Bool) (now : ℕ) (a : Result (Option (Entry K V)) OutOfMemory) (e : Events K V) (t : State K V X P W)
-      → GetStep says read Runs eq s key hash need_key ignored now a e t → e.ids ≡ []
-  get_asks_nothing says read eq s key hash need_key ignored now a e t step = go (is_disabled s.capacity) step
-    where
-      at : (o : Option (Record K V)) (a : Result (Option (Entry K V)) OutOfMemory) → GetsAt says read Runs s o hash need_key ignored now a e t → e.ids ≡ []
-      at None a h = recording_asks_nothing s now (Miss hash) e t h.1
-      at (Some r) (Ok None) h = recording_asks_nothing s now (Miss hash) e t h.1
-      at (Some r) (Ok (Some entry)) h = recording_asks_nothing (after_hit read s r now) (hit_at read s r now) (hit_operation read s r now) e t h.3
-      at (Some r) (Err _) h = ap (λ (x : Events K V). x.ids) h.1.1
-
-      go : (b : Bool) → MatchBool b ((a ≡ Ok None) × Unchanged s e t) (GetsAt says read Runs s (record_of_key eq s.records key) hash need_key ignored now a e t) → e.ids ≡ []
-      go true h = ap (λ (x : Events K V). x.ids) h.1.1
-      go false h = at (record_of_key eq s.records key) a h
 
 -- what waits, as a call
 pub pending_step : {K V X L P W C I : Type 0} (m : Meaning K V X L P W C I) (Runs : State K V X P W → Terms → Course → List (Notice K V) → State K V X P W → Type 0) (s : State K V X P W) (r : Reply K V P) → TellsPending s r → CallStep m Runs s call.Pending r no_events s
@@ -75,21 +42,17 @@ heard_nothing tells (Some l) (Some m) h = ap Some h
 heard_nothing tells None (Some m) h = absurd h
 heard_nothing tells (Some l) None h = absurd h
 
-module _ {K V S X L P W : Type 0} (tells : L → K → V → RemovalCause → L → Type 0) where
-  -- where nothing happened before the notices, they are all that befalls the cache
-  pub befalls_after : (ns : List (Notice K V)) (old mid new : Engine K V S X L P W) → mid.listener ≡ old.listener → Befalls tells no_events old mid → Befalls tells (only_notices ns) mid new → Befalls tells (only_notices ns) old new
-  befalls_after ns old mid new same before after =
-      let name : mid.name ≡ old.name = ap (λ (c : Engine K V S X L P W). c.name) before.kept in
-      let hasher : mid.hasher ≡ old.hasher = ap (λ (c : Engine K V S X L P W). c.hasher) before.kept in
-      record {
-        kept =
-            after.kept
-            ∙ ap (λ n. record mid { name = n; state = new.state; listener = new.listener; write_list = new.write_list; passes = new.passes; room = new.room }) name
-            ∙ ap (λ h. record old { hasher = h; state = new.state; listener = new.listener; write_list = new.write_list; passes = new.passes; room = new.room }) hasher;
-        heard = subst (λ l. Heard tells l ns new.listener) same after.heard;
-        passes = after.passes ∙ before.passes;
-        listed = λ none. after.listed none ∙ before.listed refl;
-      }
-
-  pub befalls_then : (ns : List (Notice K V)) (old mid new : Engine K V S X L P W) → Befalls tells no_events old mid → Befalls tells (only_notices ns) mid new → Befalls tells (only_notices ns) old new
-  befalls_then ns old mid new before after = befalls_after ns old mid new (heard_nothing tells old.listener mid.listener before.heard) before after
+-- where nothing happened before the notices, they are all that befalls the cache
+pub befalls_then : {K V S X L P W : Type 0} (tells : L → K → V → RemovalCause → L → Type 0) (ns : List (Notice K V)) (old mid new : Engine K V S X L P W) → Befalls tells no_events old mid → Befalls tells (only_notices ns) mid new → Befalls tells (only_notices ns) old new
+befalls_then {K} {V} {S} {X} {L} {P} {W} tells ns old mid new before after =
+    let name : mid.name ≡ old.name = ap (λ (c : Engine K V S X L P W). c.name) before.kept in
+    let hasher : mid.hasher ≡ old.hasher = ap (λ (c : Engine K V S X L P W). c.hasher) before.kept in
+    record {
+      kept =
+          after.kept
+          ∙ ap (λ n. record mid { name = n; state = new.state; listener = new.listener; write_list = new.write_list; passes = new.passes; room = new.room }) name
+          ∙ ap (λ h. record old { hasher = h; state = new.state; listener = new.listener; write_list = new.write_list; passes = new.passes; room = new.room }) hasher;
+      heard = subst (λ l. Heard tells l ns new.listener) (heard_nothing tells old.listener mid.listener before.heard) after.heard;
+      passes = after.passes ∙ before.passes;
+      listed = λ none. after.listed none ∙ before.listed refl;
+    }

@@ -1,16 +1,13 @@
 -- What is put back is there when its ticket was posted, and nothing else comes with it.
-use Rattle.std.proofs.Common.{◌≡◌, refl, ℕ, ◌<◌, Bool, List, [], ◌∷◌, ◌++◌, Some, Ok, ap, sym, subst, ◌∙◌, ◌⊎◌, inl, inr, arith}
-use Rattle.std.specs.Prelude.{Contains}
+use Rattle.std.proofs.Common.{◌≡◌, refl, ℕ, Bool, List, [], ◌∷◌, ◌++◌, Some, Ok, ap, sym, subst, ◌∙◌, ◌⊎◌, inl, inr, arith}
 use Rattle.std.specs.Cmp.{IsEquivalence}
 use Rattle.std.specs.FinMap.{get, insert}
 use Rattle.std.proofs.lemmas.List.Elements.{Contains-append_left, Contains-append_right, Contains-push}
 use Rattle.moka_parts.specs.declared.calls.Ticket.{Ticket}
 use Rattle.moka_parts.specs.declared.policy.Instant.{Instant}
-use Rattle.moka_parts.specs.declared.records.Operation.{Operation}
-use Rattle.moka_parts.specs.declared.records.Operation.TheVariants.{Upsert, Removal}
 use Rattle.moka_parts.specs.declared.records.Record.{Record}
 use Rattle.moka_parts.specs.Records.{Records}
-use Rattle.moka_parts.specs.Settling.{IsWaiting, IsValid}
+use Rattle.moka_parts.specs.Settling.{IsValid}
 use Rattle.moka_parts.specs.Runs.{Engine}
 use Rattle.moka_parts.specs.State.{State, Meaning}
 use Rattle.moka_parts.proofs.Lookup.{present_key}
@@ -18,8 +15,8 @@ use Rattle.moka_parts.proofs.Maps.{same_or_apart, get_inserted, get_past_insert}
 use Rattle.moka_engine.specs.declared.base_cache.restores.Restored.{Restored}
 use Rattle.moka_engine.specs.Restores.{RestoreStep, restored, restored_record}
 use Rattle.moka_drive.specs.Saved.{AddsOnly, IsOfItem, IsRestored, KeepsRecords, PutsBack, PutsAllBack}
-use Rattle.moka_drive.specs.Unsent.{IsHeld, IsOlder, AreOlder, HoldsUnsent}
-use Rattle.moka_drive.proofs.Put.{each_older}
+use Rattle.moka_drive.specs.Unsent.{IsHeld, AreOlder, HoldsUnsent}
+use Rattle.moka_drive.proofs.Put.{next_is_newest}
 
 -- what stands in the records after an insertion was inserted, or stood there before
 after_insert : {K V : Type 0} (records : Records K V) (n : ℕ) (r : Record K V) (k : ℕ) (q : Record K V) → get (insert records n r) k ≡ Some q → (q ≡ r) ⊎ (get records k ≡ Some q)
@@ -28,20 +25,23 @@ after_insert records n r k q there = elim (same_or_apart k n) [
   | inr apart ↦ inr (sym (get_past_insert records n r k apart) ∙ there)
 ]
 
+-- the applied generation of a record does not matter
+pub of_applied : {K V : Type 0} (item : Restored K V) (r : Record K V) (g : ℕ) → IsOfItem item r → IsOfItem item (record r { applied = g })
+of_applied item r g of = record { key_is = of.key_is; value_is = of.value_is; written_is = of.written_is; read_is = of.read_is; expires_is = of.expires_is }
+
 module _ {K V X P W : Type 0} (eq : K → K → Bool) (laws : IsEquivalence eq) (weighs : W → K → V → ℕ → Type 0) (s t : State K V X P W) (item : Restored K V) (hash : ℕ) (ticket : Ticket) (step : RestoreStep weighs eq s item hash (Ok ticket) t) where
   -- the record that was put back
   abbrev record_of : Record K V
   record_of = restored_record s item hash step.0
 
+  of_record : IsOfItem item record_of
+  of_record = record { key_is = refl; value_is = refl; written_is = refl; read_is = refl; expires_is = refl }
+
   held : IsHeld s.next_number record_of t.records
   held = subst (λ (u : State K V X P W). IsHeld s.next_number record_of u.records) (sym step.6) (record { applied = 0; there = get_inserted s.records s.next_number record_of; below = omega arith })
 
   older : IsValid eq s → AreOlder s.next_number record_of t.writes
-  older valid = subst (λ (u : State K V X P W). AreOlder s.next_number record_of u.writes) (sym step.6) (each_older s.next_number record_of s.writes (λ h there. one h.operation (inr (h.ticket, there))))
-    where
-      one : (o : Operation) → IsWaiting s o → IsOlder s.next_number record_of o
-      one (Upsert k g w x) waiting = λ same. let below : k < s.next_number = valid.numbered.numbered.known (Upsert k g w x) waiting in absurd (omega arith)
-      one (Removal k g) waiting = tt
+  older valid = subst (λ (u : State K V X P W). AreOlder s.next_number record_of u.writes) (sym step.6) (next_is_newest eq s valid record_of)
 
   -- it is there afterwards
   pub restored_there : (u : State K V X P W) → IsValid eq s → IsValid eq u → HoldsUnsent t u → IsRestored eq u item
@@ -50,7 +50,7 @@ module _ {K V X P W : Type 0} (eq : K → K → Bool) (laws : IsEquivalence eq) 
       record {
         kept = record record_of { applied = after.applied };
         found = present_key eq u.records item.key laws valid_after.numbered.numbered.one_each s.next_number (record record_of { applied = after.applied }) after.there (laws.refl item.key);
-        of_item = record { key_is = refl; value_is = refl; written_is = refl; read_is = refl; expires_is = refl };
+        of_item = of_applied item record_of after.applied of_record;
       }
 
   -- and nothing else came
@@ -59,18 +59,9 @@ module _ {K V X P W : Type 0} (eq : K → K → Bool) (laws : IsEquivalence eq) 
       let before = keeps n q there in
       let mid : get (restored s item hash step.0).records n ≡ Some before.0 = ap (λ (v : State K V X P W). get v.records n) (sym step.6) ∙ before.1 in
       elim (after_insert s.records s.next_number record_of n before.0 mid) [
-        | inl new ↦ inr (item, Contains-push [] item, of_one before.0 q new before.2.0 before.2.1)
+        | inl new ↦ inr (item, Contains-push [] item, subst (IsOfItem item) (sym (before.2.1 ∙ ap (λ (x : Record K V). record x { applied = before.2.0 }) new)) (of_applied item record_of before.2.0 of_record))
         | inr old ↦ inl (before.0, old, before.2)
       ]
-    where
-      of_one : (r q : Record K V) → r ≡ record_of → (g : ℕ) → q ≡ record r { applied = g } → IsOfItem item q
-      of_one r q same g is = record {
-        key_is = ap (λ (x : Record K V). x.key) is ∙ ap (λ (x : Record K V). x.key) same;
-        value_is = ap (λ (x : Record K V). x.value) is ∙ ap (λ (x : Record K V). x.value) same;
-        written_is = ap (λ (x : Record K V). x.written) is ∙ ap (λ (x : Record K V). x.written) same;
-        read_is = ap (λ (x : Record K V). x.read) is ∙ ap (λ (x : Record K V). x.read) same;
-        expires_is = ap (λ (x : Record K V). x.expires) is ∙ ap (λ (x : Record K V). x.expires) same;
-      }
 
 module _ {K V X P W : Type 0} where
   -- where nothing was put back nothing came
@@ -79,27 +70,13 @@ module _ {K V X P W : Type 0} where
 
   -- one after the other
   pub adds_then : (first second : List (Restored K V)) (s t u : State K V X P W) → AddsOnly first s t → AddsOnly second t u → AddsOnly (first ++ second) s u
-  adds_then first second s t u before after n q there = go (after n q there)
-    where
-      go : ((r : Record K V) × (get t.records n ≡ Some r) × ((g : ℕ) × (q ≡ record r { applied = g }))) ⊎ ((item : Restored K V) × Contains second item × IsOfItem item q)
-          → ((r : Record K V) × (get s.records n ≡ Some r) × ((g : ℕ) × (q ≡ record r { applied = g }))) ⊎ ((item : Restored K V) × Contains (first ++ second) item × IsOfItem item q)
-      go (inr (item, is_in, of)) = inr (item, Contains-append_right first second item is_in, of)
-      go (inl (r, at, (g, is))) = earlier (before n r at)
-        where
-          earlier : ((o : Record K V) × (get s.records n ≡ Some o) × ((g : ℕ) × (r ≡ record o { applied = g }))) ⊎ ((item : Restored K V) × Contains first item × IsOfItem item r)
-              → ((o : Record K V) × (get s.records n ≡ Some o) × ((g : ℕ) × (q ≡ record o { applied = g }))) ⊎ ((item : Restored K V) × Contains (first ++ second) item × IsOfItem item q)
-          earlier (inl (o, old, (k, same))) = inl (o, old, (g, is ∙ ap (λ (x : Record K V). record x { applied = g }) same))
-          earlier (inr (item, is_in, of)) = inr (
-            item,
-            Contains-append_left first second item is_in,
-            record {
-              key_is = ap (λ (x : Record K V). x.key) is ∙ of.key_is;
-              value_is = ap (λ (x : Record K V). x.value) is ∙ of.value_is;
-              written_is = ap (λ (x : Record K V). x.written) is ∙ of.written_is;
-              read_is = ap (λ (x : Record K V). x.read) is ∙ of.read_is;
-              expires_is = ap (λ (x : Record K V). x.expires) is ∙ of.expires_is;
-            },
-          )
+  adds_then first second s t u before after n q there = elim (after n q there) [
+    | inl (r, at, (g, is)) ↦ elim (before n r at) [
+      | inl (o, old, (k, same)) ↦ inl (o, old, (g, is ∙ ap (λ (x : Record K V). record x { applied = g }) same))
+      | inr (item, is_in, of) ↦ inr (item, Contains-append_left first second item is_in, subst (IsOfItem item) (sym is) (of_applied item r g of))
+    ]
+    | inr (item, is_in, of) ↦ inr (item, Contains-append_right first second item is_in, of)
+  ]
 
 module _ {K V S X L P W C : Type 0} (m : Meaning K V X L P W C (Unit {0})) (hash_of : S → K → ℕ) (now : Instant) where
   -- one more is put back

@@ -1,7 +1,8 @@
 -- A record whose present operation was not sent yet stays in every run.
-use Rattle.std.proofs.Common.{◌≡◌, refl, ℕ, ◌<◌, Bool, true, false, cond, ◌==◌, ◌-◌, nat_lt, List, [], ◌∷◌, Option, Some, None, Result, option_map, ap, sym, subst, ◌∙◌, ◌⊎◌, inl, inr, true≢false, arith, if◌then◌else◌}
+use Rattle.std.proofs.Common.{◌≡◌, refl, ℕ, ◌<◌, Bool, true, false, cond, ◌==◌, ◌-◌, nat_lt, List, [], ◌∷◌, Option, Some, None, Result, option_map, ap, sym, subst, ◌∙◌, inl, inr, true≢false, arith, if◌then◌else◌}
 use Rattle.std.specs.Option.{option_map_or}
 use Rattle.std.specs.FinMap.{get, insert, remove}
+use Rattle.std.specs.List.{AllByRecursion}
 use Rattle.std.proofs.lemmas.Bool.{and_parts}
 use Rattle.std.proofs.lemmas.Option.{same_Some}
 use Rattle.moka_parts.specs.declared.policy.EvictionPolicy.{EvictionPolicy}
@@ -12,17 +13,24 @@ use Rattle.moka_parts.specs.declared.records.Operation.{Operation}
 use Rattle.moka_parts.specs.declared.records.Operation.TheVariants.{Upsert, Removal}
 use Rattle.moka_parts.specs.declared.records.Registered.{Registered}
 use Rattle.moka_parts.specs.declared.records.Ticketed.{Ticketed}
-use Rattle.moka_parts.specs.Records.{Notice, Records, is_settled, settled_members, is_member, has_room, total_weight}
-use Rattle.moka_parts.specs.State.{State, Contents, Events, contents}
+use Rattle.moka_parts.specs.Records.{Records, is_settled, settled_members, is_member, has_room, total_weight}
+use Rattle.moka_parts.specs.State.{State, Contents, contents}
 use Rattle.moka_parts.specs.Candidates.{prefix, victims_for, is_preferred}
 use Rattle.moka_parts.specs.Writes.{Fate, Ignored, Overtaken, Counted, Admitted, TooHeavy, Preferred, Refused, with_applied, without_records, rejected, fate_by_frequency, fate_by_policy, fate_of_newcomer, fate_of_record, after_fate, after_write, after_writes}
-use Rattle.moka_parts.specs.Maintenance.{Choice, Removes, MovesToBack, Drops, Freedom, Terms, Course, Tests, RunsWith, IsJustified, AreJustified, after_choice, after_choices, kept_by_choice, after_queued_reads, before_steps, tests_of}
+use Rattle.moka_parts.specs.Maintenance.{Choice, Removes, MovesToBack, Drops, Freedom, Tests, AreFree, IsJustified, AreJustified, after_choice, after_choices, kept_by_choice, after_queued_reads, at_end, before_steps, tests_of}
 use Rattle.moka_parts.proofs.Maps.{AreApart, same_or_apart, get_inserted, get_past_insert, get_past_remove, apart_below}
 use Rattle.moka_parts.proofs.RunKeeps.{reads_keep}
-use Rattle.moka_parts.proofs.Kept.{kept_by_run, kept_by_due, kept_by_send}
+use Rattle.moka_parts.proofs.Kept.{kept_by_send}
 use Rattle.moka_parts.specs.declared.error.SendError.{SendError}
-use Rattle.moka_parts.specs.Calls.{RunsIfDue, SendStep}
-use Rattle.moka_drive.specs.Unsent.{IsHeld, IsOlder, AreOlder, HoldsUnsent}
+use Rattle.moka_parts.specs.Calls.{SendStep}
+use Rattle.moka_drive.specs.Unsent.{IsHeld, IsOlder, AreOlder}
+
+-- what each write keeps all keep
+pub kept_by_writes : {K V : Type 0} (Holds : Contents K V → Type 0) (capacity : Option ℕ) (policy : EvictionPolicy) (Fit : Operation → Type 0) → ((c : Contents K V) (o : Operation) (moved : List ℕ) → Fit o → Holds c → Holds (after_write capacity policy c o moved)) →
+    (c : Contents K V) (hs : List Ticketed) (ms : List (List ℕ)) → AllByRecursion (λ (h : Ticketed). Fit h.operation) hs → Holds c → Holds (after_writes capacity policy c hs ms)
+kept_by_writes Holds capacity policy Fit one c [] ms fit holds = holds
+kept_by_writes Holds capacity policy Fit one c (x ∷ hs) [] fit holds = kept_by_writes Holds capacity policy Fit one (after_write capacity policy c x.operation []) hs [] fit.1 (one c x.operation [] fit.0 holds)
+kept_by_writes Holds capacity policy Fit one c (x ∷ hs) (moved ∷ ms) fit holds = kept_by_writes Holds capacity policy Fit one (after_write capacity policy c x.operation moved) hs ms fit.1 (one c x.operation moved fit.0 holds)
 
 not_equal_back : (a g : ℕ) → a < g → (g == a) ≡ false
 not_equal_back a g less = grind arith
@@ -151,11 +159,6 @@ module _ {K V : Type 0} (n : ℕ) (r : Record K V) where
       found None there = h
       found (Some q) there = fate_holds c k g w moved q (fate_of_record capacity policy c k g w hash q) there older (fate_spares capacity policy c k g w hash q h) h
 
-  writes_hold : (capacity : Option ℕ) (policy : EvictionPolicy) (c : Contents K V) (hs : List Ticketed) (ms : List (List ℕ)) → AreOlder n r hs → IsHeld n r c.records → IsHeld n r (after_writes capacity policy c hs ms).records
-  writes_hold capacity policy c [] ms older h = h
-  writes_hold capacity policy c (x ∷ hs) [] older h = writes_hold capacity policy (after_write capacity policy c x.operation []) hs [] older.1 (write_holds capacity policy c x.operation [] older.0 h)
-  writes_hold capacity policy c (x ∷ hs) (moved ∷ ms) older h = writes_hold capacity policy (after_write capacity policy c x.operation moved) hs ms older.1 (write_holds capacity policy c x.operation moved older.0 h)
-
   -- ---- steps
 
   module _ {P : Type 0} (says : P → K → V → Bool → Type 0) (q : Tests) where
@@ -170,30 +173,12 @@ module _ {K V : Type 0} (n : ℕ) (r : Record K V) where
 
 -- ---- a run
 
-module _ {K V X P W : Type 0} (says : P → K → V → Bool → Type 0) (Outcome : State K V X P W → Terms → Course → State K V X P W → Type 0) (Detail : State K V X P W → Terms → Freedom → Course → Type 0) where
-  -- a run holds a record whose queued operations are older
-  pub run_holds : (n : ℕ) (r : Record K V) (s : State K V X P W) (terms : Terms) (course : Course) (notices : List (Notice K V)) (t : State K V X P W) → AreOlder n r s.writes → IsHeld n r s.records → RunsWith says Outcome Detail s terms course notices t → IsHeld n r t.records
-  run_holds n r s terms course notices t older h run = kept_by_run (λ x. IsHeld n r x.records) s t h _ says terms course notices
-      (λ ch enabled free.
-      let read : IsHeld n r (after_queued_reads s).records = subst (IsHeld n r) (sym (reads_keep (contents s) s.reads)) h in
-      let written : IsHeld n r (before_steps s ch).records = writes_hold n r s.capacity s.settings.policy (after_queued_reads s) s.writes ch.moves older read in
-      choices_hold n r says (tests_of s terms.now) (before_steps s ch) s.predicates ch.steps free.1 written) run.0
-
-  -- it empties the queue of writes or leaves it
-  pub run_writes : (s : State K V X P W) (terms : Terms) (course : Course) (notices : List (Notice K V)) (t : State K V X P W) → RunsWith says Outcome Detail s terms course notices t → (t.writes ≡ []) ⊎ (t.writes ≡ s.writes)
-  run_writes s terms course notices t run = kept_by_run (λ x. (x.writes ≡ []) ⊎ (x.writes ≡ s.writes)) s t (inr refl) _ says terms course notices (λ ch enabled free. inl refl) run.0
-
-module _ {K V X P W : Type 0} (Runs : State K V X P W → Terms → Course → List (Notice K V) → State K V X P W → Type 0) (holds : (s : State K V X P W) (terms : Terms) (course : Course) (notices : List (Notice K V)) (t : State K V X P W) → Runs s terms course notices t → HoldsUnsent s t)
-    (writes : (s : State K V X P W) (terms : Terms) (course : Course) (notices : List (Notice K V)) (t : State K V X P W) → Runs s terms course notices t → (t.writes ≡ []) ⊎ (t.writes ≡ s.writes)) where
-  -- so does the run that is due, if one is
-  pub due_holds : (s : State K V X P W) (queued now : ℕ) (e : Events K V) (t : State K V X P W) → RunsIfDue Runs s queued now e t → HoldsUnsent s t × ((t.writes ≡ []) ⊎ (t.writes ≡ s.writes))
-  due_holds s queued now e t step = kept_by_due (λ x. HoldsUnsent s x × ((x.writes ≡ []) ⊎ (x.writes ≡ s.writes))) s t ((λ n r older held. held), inr refl) Runs queued now e
-      (λ course mid housekeeping run. (holds s _ course e.notices mid run, writes s _ course e.notices mid run)) step
-
--- what is older than a record in a queue is so in an empty one
-pub older_left : {K V : Type 0} (n : ℕ) (r : Record K V) (before after : List Ticketed) → (after ≡ []) ⊎ (after ≡ before) → AreOlder n r before → AreOlder n r after
-older_left n r before after (inl none) older = subst (AreOlder n r) (sym none) tt
-older_left n r before after (inr same) older = subst (AreOlder n r) (sym same) older
+-- a run holds a record whose queued operations are older
+pub run_holds : {K V X P W : Type 0} (says : P → K → V → Bool → Type 0) (n : ℕ) (r : Record K V) (s : State K V X P W) (now : ℕ) (ch : Freedom) → AreFree says s now ch → AreOlder n r s.writes → IsHeld n r s.records → IsHeld n r (at_end s ch).records
+run_holds {K} {V} says n r s now ch free older h =
+    let read : IsHeld n r (after_queued_reads s).records = subst (IsHeld n r) (sym (reads_keep (contents s) s.reads)) h in
+    let written : IsHeld n r (before_steps s ch).records = kept_by_writes (λ (c : Contents K V). IsHeld n r c.records) s.capacity s.settings.policy (IsOlder n r) (write_holds n r s.capacity s.settings.policy) (after_queued_reads s) s.writes ch.moves older read in
+    choices_hold n r says (tests_of s now) (before_steps s ch) s.predicates ch.steps free.1 written
 
 -- a send leaves the records
 pub send_holds : {K V X P W : Type 0} (s : State K V X P W) (ticket : ℕ) (a : Result (Unit {0}) SendError) (t : State K V X P W) → SendStep s ticket a t → t.records ≡ s.records

@@ -1,17 +1,17 @@
 -- What a listener counts is the notices of a run.
-use Rattle.std.proofs.Common.{◌≡◌, refl, ℕ, ◌+◌, ◌≤◌, Bool, cond, List, [], ◌∷◌, count_by, Option, Some, None, ap, sym, subst, ◌∙◌, inl, inr}
+use Rattle.std.proofs.Common.{◌≡◌, refl, ◌+◌, ◌≤◌, List, [], ◌∷◌, count_by, Option, Some, None, ap, sym, subst, inl, inr}
 use Rattle.moka_parts.specs.declared.notification.RemovalCause.{RemovalCause}
 use Rattle.moka_parts.specs.declared.notification.RemovalCause.TheVariants.{Expired, Explicit, Replaced, Size}
 use Rattle.moka_parts.specs.Records.{Notice}
 use Rattle.moka_parts.specs.Runs.{notices_of}
 use Rattle.moka_parts.specs.State.{Meaning}
 use Rattle.moka_parts.specs.Surroundings.{Leads, Heard, NoticeStep}
-use Rattle.moka_parts.specs.Time.{greatest, plus}
+use Rattle.moka_parts.specs.Time.{greatest}
 use Rattle.moka_drive.specs.declared.removals.Removals.{Removals}
 use Rattle.moka_drive.specs.declared.removals.CountingListener.{CountingListener}
 use Rattle.moka_drive.specs.Removed.{no_removals, after_removal, counting, removals_of, is_of, AreHeld, AreCounted, CountsHeard, CountsRemovals, PassesOn}
 use Rattle.moka_drive.specs.Synchronous.{hears_clones}
-use Rattle.moka_drive.proofs.Counting.{no_more, more_and_more, within, zero_plus, count_after}
+use Rattle.moka_drive.proofs.Counting.{no_more, rises_then, within}
 
 module _ {K V : Type 0} where
   -- one removal
@@ -34,18 +34,12 @@ module _ {K V : Type 0} where
     size_held = subst (λ n. n ≤ greatest) (sym h.size) (within greatest (s.size + count_by (is_of Size) ns));
   }
 
-  -- so many more of a cause after the first notice
-  more_of : (p : Notice K V → Bool) (n : Notice K V) (ns : List (Notice K V)) (a b c : ℕ) → b ≡ plus a (count_by p (n ∷ [])) → c ≡ plus b (count_by p ns) → c ≡ plus a (count_by p (n ∷ ns))
-  more_of p n ns a b c one rest =
-      rest ∙ ap (λ x. plus x (count_by p ns)) one ∙ more_and_more greatest a (count_by p (n ∷ [])) (count_by p ns)
-      ∙ ap (λ x. plus a (x + count_by p ns)) (zero_plus (cond (p n) 1 0)) ∙ ap (plus a) (sym (count_after p n ns))
-
   counted_then : (n : Notice K V) (ns : List (Notice K V)) (s t u : Removals) → AreCounted (n ∷ []) s t → AreCounted ns t u → AreCounted (n ∷ ns) s u
   counted_then n ns s t u h k = record {
-    expired = more_of (is_of Expired) n ns s.expired t.expired u.expired h.expired k.expired;
-    explicit = more_of (is_of Explicit) n ns s.explicit t.explicit u.explicit h.explicit k.explicit;
-    replaced = more_of (is_of Replaced) n ns s.replaced t.replaced u.replaced h.replaced k.replaced;
-    size = more_of (is_of Size) n ns s.size t.size u.size h.size k.size;
+    expired = rises_then (is_of Expired) (n ∷ []) ns s.expired t.expired u.expired h.expired k.expired;
+    explicit = rises_then (is_of Explicit) (n ∷ []) ns s.explicit t.explicit u.explicit h.explicit k.explicit;
+    replaced = rises_then (is_of Replaced) (n ∷ []) ns s.replaced t.replaced u.replaced h.replaced k.replaced;
+    size = rises_then (is_of Size) (n ∷ []) ns s.size t.size u.size h.size k.size;
   }
 
   module _ {L : Type 0} (tells : CountingListener L → K → V → RemovalCause → CountingListener L → Type 0)

@@ -19,6 +19,7 @@ use Rattle.moka_parts.proofs.Maps.{same_or_apart, get_inserted, get_past_insert}
 use Rattle.moka_parts.proofs.Values.{values_inserted}
 use Rattle.moka_engine.specs.declared.base_cache.restores.Restored.{Restored}
 use Rattle.moka_engine.specs.Restores.{RestoreStep, restored, restored_record}
+use Rattle.moka_drive.proofs.Restoring.{of_applied}
 use Rattle.moka_drive.specs.Saved.{AreAsWeighed, HasRoomFor, IsOfItem, IsRestored, IsRoomyFor, KeepsUnexpired, TakesOnlyExpired, has_expired}
 
 module _ {K V X P W : Type 0} (eq : K → K → Bool) where
@@ -98,7 +99,7 @@ module _ {K V X P W : Type 0} (eq : K → K → Bool) where
         on unexpired (n, r, there, of) =
             let fresh : has_lapsed t.settings t.invalid_before r now ≡ false = rw (first.settings, bound, of.expires_is, of.written_is, of.read_is, unexpired) refl in
             let after = second.there n r there fresh in
-            (n, record r { applied = after.0 }, after.1, record { key_is = of.key_is; value_is = of.value_is; written_is = of.written_is; read_is = of.read_is; expires_is = of.expires_is })
+            (n, record r { applied = after.0 }, after.1, of_applied item r after.0 of)
 
     one_more : (u : State K V X P W) (items : List (Restored K V)) (item : Restored K V) → HaveRecords u items → HasRecord u item → HaveRecords u (items ++ item ∷ [])
     one_more u [] item all here = (λ unexpired. here, tt)

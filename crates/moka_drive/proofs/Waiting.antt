@@ -19,13 +19,12 @@ use Rattle.moka_parts.specs.declared.error.SendError.TheVariants.{UnknownTicket,
 use Rattle.moka_parts.specs.Records.{Notice, record_of_key}
 use Rattle.moka_parts.specs.State.{State, Events, is_disabled}
 use Rattle.moka_parts.specs.Housekeeping.{is_due}
-use Rattle.moka_parts.specs.Maintenance.{Terms, Course, Freedom, DoesNothing, RunsBy, RunsWith}
+use Rattle.moka_parts.specs.Maintenance.{Terms, Course}
 use Rattle.moka_parts.specs.Calls.{KeeperRun, RunsIfDue, RecordsRead, Unchanged, SendsAt, SendStep, InsertsAt, InsertStep, RemovesAt, RemoveStep, GetsAt, GetStep, after_hit, hit_at, hit_operation, entry_of, queue_length}
 use Rattle.moka_parts.specs.Settling.{IsWellNumbered}
 use Rattle.moka_parts.proofs.Maps.{same_or_apart, get_inserted, get_past_insert, get_removed, get_past_remove}
 use Rattle.moka_parts.proofs.Lookup.{record_of_key_empty}
 use Rattle.moka_parts.proofs.Values.{empty_map}
-use Rattle.moka_parts.proofs.Kept.{kept_by_run}
 
 -- ---- one operation alone
 
@@ -53,22 +52,10 @@ module _ {K V X P W : Type 0} where
     pub outstanding : t.outstanding ≡ s.outstanding
     pub capacity : t.capacity ≡ s.capacity
 
-  alike_itself : (s : State K V X P W) → IsAlike s s
+  pub alike_itself : (s : State K V X P W) → IsAlike s s
   alike_itself s = record { outstanding = refl; capacity = refl }
 
   -- ---- runs
-
-  module _ (says : P → K → V → Bool → Type 0) (Outcome : State K V X P W → Terms → Course → State K V X P W → Type 0) (Detail : State K V X P W → Terms → Freedom → Course → Type 0) where
-    pub run_alike : (s : State K V X P W) (terms : Terms) (course : Course) (notices : List (Notice K V)) (t : State K V X P W) → RunsWith says Outcome Detail s terms course notices t → IsAlike s t
-    run_alike s terms course notices t run = kept_by_run (IsAlike s) s t (alike_itself s) _ says terms course notices (λ ch enabled free. record { outstanding = refl; capacity = refl }) run.0
-
-    -- a run of a map that is not disabled empties the queue of writes
-    pub run_empties : (s : State K V X P W) (terms : Terms) (course : Course) (notices : List (Notice K V)) (t : State K V X P W) → is_disabled s.capacity ≡ false → RunsWith says Outcome Detail s terms course notices t → t.writes ≡ []
-    run_empties s terms course notices t on run = go (is_disabled s.capacity) on run.0
-      where
-        go : (b : Bool) → b ≡ false → MatchBool b (DoesNothing s course notices t) ((ch : Freedom) × RunsBy says s terms ch course notices t × Detail s terms ch course) → t.writes ≡ []
-        go true impossible nothing = absurd (true≢false impossible)
-        go false on (ch, by, detail) = ap (λ (x : State K V X P W). x.writes) by.1
 
   module _ (Runs : State K V X P W → Terms → Course → List (Notice K V) → State K V X P W → Type 0) (alike : (s : State K V X P W) (terms : Terms) (course : Course) (notices : List (Notice K V)) (t : State K V X P W) → Runs s terms course notices t → IsAlike s t) where
     pub due_alike : (s : State K V X P W) (queued now : ℕ) (e : Events K V) (t : State K V X P W) → RunsIfDue Runs s queued now e t → IsAlike s t × (e.ids ≡ [])
@@ -107,6 +94,10 @@ module _ {K V X P W : Type 0} where
 
   -- ---- inserts and removals
 
+  -- no key has a record in a disabled map
+  pub none_of_key : (eq : K → K → Bool) (key : K) (s : State K V X P W) → IsWellNumbered eq s → is_disabled s.capacity ≡ true → record_of_key eq s.records key ≡ None
+  none_of_key eq key s well off = ap (λ records. record_of_key eq records key) (well.disabled off).no_records ∙ record_of_key_empty eq key
+
   -- one more operation waits under the ticket, and the capacity is the same
   pub record HandsOut (s : State K V X P W) (ticket : Ticket) (t : State K V X P W) : Type 0 where
     pub operation : Operation
@@ -142,7 +133,7 @@ module _ {K V X P W : Type 0} where
     where
       enabled : (r : Record K V) → record_of_key eq s.records key ≡ Some r → (b : Bool) → is_disabled s.capacity ≡ b → b ≡ false
       enabled r found false off = refl
-      enabled r found true off = (let none : record_of_key eq s.records key ≡ None = ap (λ records. record_of_key eq records key) (well.disabled off).no_records ∙ record_of_key_empty eq key in let impossible : None ≡ Some r = sym none ∙ found in absurd (cc))
+      enabled r found true off = (let impossible : None ≡ Some r = sym (none_of_key eq key s well off) ∙ found in absurd (cc))
 
       go : (o : Option (Record K V)) → record_of_key eq s.records key ≡ o → RemovesAt s o (Some a) t → HandsOut s a.1 t × (is_disabled s.capacity ≡ false)
       go None found h = (let impossible : Some a ≡ None = h.0 in absurd (cc))

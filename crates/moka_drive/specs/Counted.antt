@@ -57,63 +57,55 @@ pub record IsCounted {K V P : Type 0} (replies : List (Reply K V P)) (makers : �
 
 -- ---- laws
 
+-- where such calls were made, the counters rose from the first to the second by their look-ups, and by so many calls of
+-- makers
+abbrev pub Counts : {K V P : Type 0} → (List (Call K V P) → List (Reply K V P) → Type 0) → ℕ → Stats → Stats → Type 0
+Counts {K} {V} {P} Fit makers s t = (calls : List (Call K V P)) (replies : List (Reply K V P)) → AreCounters s →
+    Fit calls replies → IsCounted replies makers s t
+
 -- each call counts the look-ups among the calls that it stands for, and the maker that it called
 pub record CountsCalls (K V P E : Type 0) (is_clone : V → V → Type 0) : Type 0 where
-  pub get : (s : Stats) (key : K) (hash : ℕ) (now : Instant) (own answer : Result (Option V) OutOfMemory)
-      (calls : List (Call K V P)) (replies : List (Reply K V P)) → AreCounters s → IsCopiedAnswer is_clone own answer →
-      GetsValue key hash now own calls replies →
-      IsCounted replies 0 s (after_look_up answer s)
+  pub get : (s : Stats) (key : K) (hash : ℕ) (now : Instant) (own answer : Result (Option V) OutOfMemory) →
+      IsCopiedAnswer is_clone own answer → Counts {P = P} (GetsValue key hash now own) 0 s (after_look_up answer s)
   pub get_with : (s : Stats) (key : K) (hash : ℕ) (now : Instant) (made : Option V)
-      (own : Result V (Option (InsertRefused K V))) (calls : List (Call K V P)) (replies : List (Reply K V P)) →
-      AreCounters s → GetsOrInserts key hash now made own calls replies →
-      IsCounted replies (loads_of made) s (after_get_with made own s)
+      (own : Result V (Option (InsertRefused K V))) →
+      Counts {P = P} (GetsOrInserts key hash now made own) (loads_of made) s (after_get_with made own s)
   pub optionally_get_with : (s : Stats) (key : K) (hash : ℕ) (now : Instant) (made : Option (Option V))
-      (own : Result (Option V) (Option (InsertRefused K V))) (calls : List (Call K V P))
-      (replies : List (Reply K V P)) → AreCounters s → GetsOrInsertsIfMade key hash now made own calls replies →
-      IsCounted replies (loads_of made) s (after_get_with made own s)
+      (own : Result (Option V) (Option (InsertRefused K V))) →
+      Counts {P = P} (GetsOrInsertsIfMade key hash now made own) (loads_of made) s (after_get_with made own s)
   pub try_get_with : (s : Stats) (key : K) (hash : ℕ) (now : Instant) (made : Option (Result V E))
-      (own : Result (Result V E) (Option (InsertRefused K V))) (calls : List (Call K V P))
-      (replies : List (Reply K V P)) → AreCounters s → GetsOrInsertsIfNoError key hash now made own calls replies →
-      IsCounted replies (loads_of made) s (after_get_with made own s)
+      (own : Result (Result V E) (Option (InsertRefused K V))) →
+      Counts {P = P} (GetsOrInsertsIfNoError key hash now made own) (loads_of made) s (after_get_with made own s)
   pub insert : (s : Stats) (key : K) (hash : ℕ) (value : V) (now : Instant)
-      (answer : Result (Unit {0}) (InsertRefused K V)) (calls : List (Call K V P)) (replies : List (Reply K V P)) →
-      AreCounters s → InsertsEntry key hash value now answer calls replies → IsCounted replies 0 s s
-  pub remove : (s : Stats) (key : K) (hash : ℕ) (now : Instant) (taken : Option (V × Result (Unit {0}) OutOfMemory))
-      (calls : List (Call K V P)) (replies : List (Reply K V P)) → AreCounters s →
-      RemovesEntry key hash now taken calls replies → IsCounted replies 0 s s
-  pub run_pending_tasks : (s : Stats) (now : Instant) (more : Bool) (calls : List (Call K V P))
-      (replies : List (Reply K V P)) → AreCounters s → Just (own_run now) (reply.Run more) calls replies →
-      IsCounted replies 0 s s
-  pub invalidate_all : (s : Stats) (now : Instant) (calls : List (Call K V P)) (replies : List (Reply K V P)) →
-      AreCounters s → Just (call.InvalidateAll now) reply.InvalidateAll calls replies → IsCounted replies 0 s s
-  pub set_max_capacity : (s : Stats) (capacity : Option ℕ) (answer : Result (Unit {0}) CapacityError)
-      (calls : List (Call K V P)) (replies : List (Reply K V P)) → AreCounters s →
-      Just (call.SetCapacity capacity) (reply.SetCapacity answer) calls replies → IsCounted replies 0 s s
+      (answer : Result (Unit {0}) (InsertRefused K V)) → Counts {P = P} (InsertsEntry key hash value now answer) 0 s s
+  pub remove : (s : Stats) (key : K) (hash : ℕ) (now : Instant)
+      (taken : Option (V × Result (Unit {0}) OutOfMemory)) → Counts {P = P} (RemovesEntry key hash now taken) 0 s s
+  pub run_pending_tasks : (s : Stats) (now : Instant) (more : Bool) →
+      Counts {K = K} {V = V} {P = P} (Just (own_run now) (reply.Run more)) 0 s s
+  pub invalidate_all : (s : Stats) (now : Instant) →
+      Counts {K = K} {V = V} {P = P} (Just (call.InvalidateAll now) reply.InvalidateAll) 0 s s
+  pub set_max_capacity : (s : Stats) (capacity : Option ℕ) (answer : Result (Unit {0}) CapacityError) →
+      Counts {K = K} {V = V} {P = P} (Just (call.SetCapacity capacity) (reply.SetCapacity answer)) 0 s s
   -- a miss after which a value is put is no load
   pub get_or_insert : (s : Stats) (key : K) (hash : ℕ) (now : Instant) (put : Option V)
-      (own : Result V (Option (InsertRefused K V))) (calls : List (Call K V P)) (replies : List (Reply K V P)) →
-      AreCounters s → GetsOrInserts key hash now put own calls replies →
-      IsCounted replies 0 s (after_get_or_insert put own s)
+      (own : Result V (Option (InsertRefused K V))) →
+      Counts {P = P} (GetsOrInserts key hash now put own) 0 s (after_get_or_insert put own s)
   -- a function that computes a value is no maker
   pub upsert_with : (s : Stats) (key : K) (hash : ℕ) (now : Instant) (own got : Result (Option V) OutOfMemory)
-      (put : Option (V × Result V (InsertRefused K V))) (calls : List (Call K V P)) (replies : List (Reply K V P)) →
-      AreCounters s → IsCopiedAnswer is_clone own got → Upserts key hash now own put calls replies →
-      IsCounted replies 0 s (after_look_up got s)
+      (put : Option (V × Result V (InsertRefused K V))) → IsCopiedAnswer is_clone own got →
+      Counts {P = P} (Upserts key hash now own put) 0 s (after_look_up got s)
   pub compute_with : (s : Stats) (key : K) (hash : ℕ) (now : Instant) (own got : Result (Option V) OutOfMemory)
-      (done : Option (Computed K V)) (calls : List (Call K V P)) (replies : List (Reply K V P)) → AreCounters s →
-      IsCopiedAnswer is_clone own got → Computes key hash now own done calls replies →
-      IsCounted replies 0 s (after_look_up got s)
+      (done : Option (Computed K V)) → IsCopiedAnswer is_clone own got →
+      Counts {P = P} (Computes key hash now own done) 0 s (after_look_up got s)
   pub get_many : (s : Stats) (hash_of : K → ℕ) (now : Instant) (keys : List K)
-      (answer : Result (Vec (Option V) Global) (GetManyRefused V)) (calls : List (Call K V P))
-      (replies : List (Reply K V P)) → AreCounters s → GetsMany is_clone hash_of now keys answer calls replies →
-      IsCounted replies 0 s (after_look_ups (found_by answer) s)
+      (answer : Result (Vec (Option V) Global) (GetManyRefused V)) →
+      Counts {P = P} (GetsMany is_clone hash_of now keys answer) 0 s (after_look_ups (found_by answer) s)
   pub insert_many : (s : Stats) (hash_of : K → ℕ) (now : Instant) (items : List (K × V))
-      (answer : Result (Unit {0}) (InsertManyRefused K V)) (calls : List (Call K V P)) (replies : List (Reply K V P)) →
-      AreCounters s → InsertsMany hash_of now items answer calls replies → IsCounted replies 0 s s
+      (answer : Result (Unit {0}) (InsertManyRefused K V)) →
+      Counts {P = P} (InsertsMany hash_of now items answer) 0 s s
   pub invalidate_many : (s : Stats) (hash_of : K → ℕ) (now : Instant) (keys : List K)
-      (answer : Result (Unit {0}) (InvalidateManyRefused V)) (calls : List (Call K V P))
-      (replies : List (Reply K V P)) → AreCounters s → InvalidatesMany hash_of now keys answer calls replies →
-      IsCounted replies 0 s s
+      (answer : Result (Unit {0}) (InvalidateManyRefused V)) →
+      Counts {P = P} (InvalidatesMany hash_of now keys answer) 0 s s
 
 -- so it is with any list of calls: what is counted adds up from call to call
 pub record AddsUp (K V P : Type 0) : Type 0 where

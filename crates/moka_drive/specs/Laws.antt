@@ -69,8 +69,8 @@ module _ {K V X L P W C : Type 0} (S : Type 0) (m : Meaning K V X L P W C (Unit 
 
   -- from an empty cache, where no insert is earlier than a write that is there, each run that is not cut also removes
   -- what is past its time
-  abbrev pub AgesOut : Type 0
-  AgesOut = (calls : List (Call K V P)) (replies : List (Reply K V P)) (old new : Engine K V S X L P W)
+  abbrev pub MadeRunsAgeOut : Type 0
+  MadeRunsAgeOut = (calls : List (Call K V P)) (replies : List (Reply K V P)) (old new : Engine K V S X L P W)
       (clock clock_after : C) → IsValid m.eq old.state → IsEmpty old.state →
       (keeps_write_list old.state.settings ≡ true → IsWriteList old.state old.write_list) →
       (made : Made m calls replies old clock new clock_after) → AreTimely old.state made.steps →
@@ -99,4 +99,4 @@ pub record MadeAnytime {K V X L P W C : Type 0} (S : Type 0) (m : Meaning K V X 
       Made (anytime m) calls replies old tt new tt
   pub goes_on : GoesOn S (anytime m)
   pub keeps_promises : KeepsPromises S (anytime m)
-  pub ages_out : AgesOut S (anytime m)
+  pub ages_out : MadeRunsAgeOut S (anytime m)

@@ -32,24 +32,24 @@ KeepsLimits {K} {V} {X} {L} {P} {W} {C} S m = (calls : List (Call K V P)) (repli
     (old new : Engine K V S X L P W) (clock clock_after : C) → Made m calls replies old clock new clock_after
     → SetNoCapacity calls → HasSameLimits old.state new.state
 
+-- calls that fit this set none
+abbrev pub SetNone : {K V P : Type 0} → (List (Call K V P) → List (Reply K V P) → Type 0) → Type 0
+SetNone {K} {V} {P} Fit = (calls : List (Call K V P)) (replies : List (Reply K V P)) → Fit calls replies →
+    SetNoCapacity calls
+
 -- what each call of the synchronous cache stands for sets none
 pub record CallsSetNoCapacity (K V P E : Type 0) (key : K) (hash : ℕ) (now : Instant) : Type 0 where
-  pub insert : (value : V) (a : Result (Unit {0}) (InsertRefused K V)) (calls : List (Call K V P))
-      (replies : List (Reply K V P)) → InsertsEntry key hash value now a calls replies → SetNoCapacity calls
-  pub get : (a : Result (Option V) OutOfMemory) (calls : List (Call K V P)) (replies : List (Reply K V P)) →
-      GetsValue key hash now a calls replies → SetNoCapacity calls
-  pub remove : (taken : Option (V × Result (Unit {0}) OutOfMemory)) (calls : List (Call K V P))
-      (replies : List (Reply K V P)) → RemovesEntry key hash now taken calls replies → SetNoCapacity calls
-  pub get_with : (made : Option V) (own : Result V (Option (InsertRefused K V))) (calls : List (Call K V P))
-      (replies : List (Reply K V P)) → GetsOrInserts key hash now made own calls replies → SetNoCapacity calls
-  pub optionally_get_with : (made : Option (Option V)) (own : Result (Option V) (Option (InsertRefused K V)))
-      (calls : List (Call K V P)) (replies : List (Reply K V P)) →
-      GetsOrInsertsIfMade key hash now made own calls replies → SetNoCapacity calls
-  pub try_get_with : (made : Option (Result V E)) (own : Result (Result V E) (Option (InsertRefused K V)))
-      (calls : List (Call K V P)) (replies : List (Reply K V P)) →
-      GetsOrInsertsIfNoError key hash now made own calls replies → SetNoCapacity calls
-  pub upsert_with : (own : Result (Option V) OutOfMemory) (put : Option (V × Result V (InsertRefused K V)))
-      (calls : List (Call K V P)) (replies : List (Reply K V P)) → Upserts key hash now own put calls replies →
-      SetNoCapacity calls
-  pub compute_with : (own : Result (Option V) OutOfMemory) (done : Option (Computed K V)) (calls : List (Call K V P))
-      (replies : List (Reply K V P)) → Computes key hash now own done calls replies → SetNoCapacity calls
+  pub insert : (value : V) (a : Result (Unit {0}) (InsertRefused K V)) →
+      SetNone {P = P} (InsertsEntry key hash value now a)
+  pub get : (a : Result (Option V) OutOfMemory) → SetNone {P = P} (GetsValue key hash now a)
+  pub remove : (taken : Option (V × Result (Unit {0}) OutOfMemory)) → SetNone {P = P} (RemovesEntry key hash now taken)
+  pub get_with : (made : Option V) (own : Result V (Option (InsertRefused K V))) →
+      SetNone {P = P} (GetsOrInserts key hash now made own)
+  pub optionally_get_with : (made : Option (Option V)) (own : Result (Option V) (Option (InsertRefused K V))) →
+      SetNone {P = P} (GetsOrInsertsIfMade key hash now made own)
+  pub try_get_with : (made : Option (Result V E)) (own : Result (Result V E) (Option (InsertRefused K V))) →
+      SetNone {P = P} (GetsOrInsertsIfNoError key hash now made own)
+  pub upsert_with : (own : Result (Option V) OutOfMemory) (put : Option (V × Result V (InsertRefused K V))) →
+      SetNone {P = P} (Upserts key hash now own put)
+  pub compute_with : (own : Result (Option V) OutOfMemory) (done : Option (Computed K V)) →
+      SetNone {P = P} (Computes key hash now own done)

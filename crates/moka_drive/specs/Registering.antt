@@ -10,22 +10,12 @@ use Rattle.moka_parts.specs.declared.notification.RemovalCause.{RemovalCause}
 use Rattle.moka_parts.specs.declared.policy.Instant.{Instant}
 use Rattle.moka_parts.specs.Calls.{InvalidateStep, only_ids}
 use Rattle.moka_parts.specs.Drives.{Drives}
-use Rattle.moka_parts.specs.Listed.{AreListedSteps}
 use Rattle.moka_parts.specs.Order.{IsWriteList}
-use Rattle.moka_parts.specs.Runs.{Engine, Step, Befalls, MakesCalls, PromisedRun}
+use Rattle.moka_parts.specs.Runs.{Engine, Befalls}
 use Rattle.moka_parts.specs.Settling.{IsValid}
 use Rattle.moka_parts.specs.State.{Meaning, Events, keeps_write_list}
 use Rattle.moka_parts.specs.Surroundings.{Leads}
-use Rattle.moka_drive.specs.Synchronous.{Made, AreSentInOrder}
-
--- as `Made`, with a source of identifiers before and after
-pub record MadeAsking {K V S X L P W C I : Type 0} (m : Meaning K V X L P W C I) (calls : List (Call K V P))
-    (replies : List (Reply K V P)) (old : Engine K V S X L P W) (clock : C) (ids : I) (new : Engine K V S X L P W)
-    (clock_after : C) (ids_after : I) : Type 0 where
-  pub steps : List (Step K V X P W)
-  pub is_run : MakesCalls m (PromisedRun m.says m.read) calls replies steps old clock ids new clock_after ids_after
-  pub listed : AreListedSteps m old.state old.write_list steps new.write_list
-  pub in_order : AreSentInOrder old.state steps
+use Rattle.moka_drive.specs.Synchronous.{Made, MadeAsking}
 
 -- calls with registrations in between are one run: the second meaning is the first with a source of identifiers, and
 -- registrations are told as it is said before both

@@ -26,8 +26,8 @@ use Rattle.moka_drive.specs.Synchronous.{Makes, Posts}
 use Rattle.moka_drive.specs.Unsent.{HidesNoMore}
 
 -- each record is a member of the access list
-abbrev pub AreAllMembers : {K V X P W : Type 0} → State K V X P W → Type 0
-AreAllMembers {K} {V} s = (n : ℕ) (r : Record K V) → get s.records n ≡ Some r → is_member n s.access ≡ true
+abbrev pub HasOnlyMembers : {K V X P W : Type 0} → State K V X P W → Type 0
+HasOnlyMembers {K} {V} s = (n : ℕ) (r : Record K V) → get s.records n ≡ Some r → is_member n s.access ≡ true
 
 -- an entry that is saved: clones of key and value, with the moments and the expiry
 pub record IsSaved {K V : Type 0} (is_key_clone : K → K → Type 0) (is_value_clone : V → V → Type 0) (seen : Seen K V)
@@ -184,7 +184,7 @@ pub record IsMadeAgain {K V X P W : Type 0} (weighs : W → K → V → ℕ → 
     (says : P → K → V → Bool → Type 0) (is_key_clone : K → K → Type 0) (is_value_clone : V → V → Type 0) (saved put : ℕ)
     (items : List (Restored K V)) (first start second : State K V X P W) : Type 0 where
   pub items_saved : AreSaved says is_key_clone is_value_clone (scene_of first saved) first.access items
-  pub all_saved : AreAllMembers first
+  pub all_saved : HasOnlyMembers first
   pub no_records : start.records ≡ empty
   pub roomy : IsRoomyFor weighs items start
   pub time_to_live : start.settings.time_to_live ≡ first.settings.time_to_live
@@ -194,17 +194,17 @@ pub record IsMadeAgain {K V X P W : Type 0} (weighs : W → K → V → ℕ → 
   pub hides : HidesNoMore start second
 
 -- a look-up of the key finds this record at the moment
-abbrev pub IsFound : {K V X P W : Type 0} → (K → K → Bool) → (P → K → V → Bool → Type 0) → State K V X P W → K → ℕ →
+abbrev pub IsSeen : {K V X P W : Type 0} → (K → K → Bool) → (P → K → V → Bool → Type 0) → State K V X P W → K → ℕ →
     Record K V → Type 0
-IsFound eq says s key now r = (record_of_key eq s.records key ≡ Some r) × IsVisible says s r now
+IsSeen eq says s key now r = (record_of_key eq s.records key ≡ Some r) × IsVisible says s r now
 
 -- both caches answer a look-up of the key at the moment alike: what one finds the other finds, and the value in the
 -- second is a clone of that in the first
 pub record AnswerAlike {K V X P W : Type 0} (eq : K → K → Bool) (says : P → K → V → Bool → Type 0)
     (is_value_clone : V → V → Type 0) (first second : State K V X P W) (key : K) (now : ℕ) : Type 0 where
-  pub forth : (r : Record K V) → IsFound eq says first key now r → (q : Record K V) × IsFound eq says second key now q
+  pub forth : (r : Record K V) → IsSeen eq says first key now r → (q : Record K V) × IsSeen eq says second key now q
       × is_value_clone r.value q.value
-  pub back : (q : Record K V) → IsFound eq says second key now q → (r : Record K V) × IsFound eq says first key now r
+  pub back : (q : Record K V) → IsSeen eq says second key now q → (r : Record K V) × IsSeen eq says first key now r
       × is_value_clone r.value q.value
 
 -- a cache made again answers each look-up as the first does, at each moment that is before neither of the two

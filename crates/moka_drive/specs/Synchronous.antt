@@ -55,14 +55,19 @@ module _ {K V X L P W C : Type 0} (eq : K → K → Bool) (tells : L → K → V
 
 -- these calls, made one after the other, gave these replies: a run of the reference cache whose runs of maintenance
 -- keep their promises, in which operations were sent in order
-pub record Made {K V S X L P W C : Type 0} (m : Meaning K V X L P W C (Unit {0})) (calls : List (Call K V P))
-    (replies : List (Reply K V P)) (old : Engine K V S X L P W) (clock : C) (new : Engine K V S X L P W)
-    (clock_after : C) : Type 0 where
+pub record MadeAsking {K V S X L P W C I : Type 0} (m : Meaning K V X L P W C I) (calls : List (Call K V P))
+    (replies : List (Reply K V P)) (old : Engine K V S X L P W) (clock : C) (ids : I) (new : Engine K V S X L P W)
+    (clock_after : C) (ids_after : I) : Type 0 where
   pub steps : List (Step K V X P W)
-  pub is_run : MakesCalls m (PromisedRun m.says m.read) calls replies steps old clock tt new clock_after tt
+  pub is_run : MakesCalls m (PromisedRun m.says m.read) calls replies steps old clock ids new clock_after ids_after
   -- with the write list from call to call
   pub listed : AreListedSteps m old.state old.write_list steps new.write_list
   pub in_order : AreSentInOrder old.state steps
+
+-- the same of calls that ask for no identifiers
+abbrev pub Made : {K V S X L P W C : Type 0} → Meaning K V X L P W C (Unit {0}) → List (Call K V P) →
+    List (Reply K V P) → Engine K V S X L P W → C → Engine K V S X L P W → C → Type 0
+Made m calls replies old clock new clock_after = MadeAsking m calls replies old clock tt new clock_after tt
 
 -- some calls that fit were made
 abbrev pub Makes : {K V S X L P W C : Type 0} → Meaning K V X L P W C (Unit {0}) →
@@ -155,47 +160,40 @@ module _ {K V P : Type 0} where
   GetsOrInserts key hash now None (Ok value) calls replies = GetsValue key hash now (Ok (Some value)) calls replies
   GetsOrInserts key hash now None (Err None) calls replies = (refused : OutOfMemory)
       × GetsValue key hash now (Err refused) calls replies
-  GetsOrInserts key hash now None (Err (Some refused)) calls replies = ⊥
-  GetsOrInserts key hash now (Some made) (Err None) calls replies = ⊥
   GetsOrInserts key hash now (Some made) (Ok value) calls replies =
       GetsThen key hash now (InsertsMade key hash now made (Ok value)) calls replies
   GetsOrInserts key hash now (Some made) (Err (Some refused)) calls replies =
       GetsThen key hash now (InsertsMade key hash now made (Err refused)) calls replies
+  GetsOrInserts key hash now made own calls replies = ⊥
 
   -- the same, where the maker may decline: then the get alone
   abbrev pub GetsOrInsertsIfMade : K → ℕ → Instant → Option (Option V) →
       Result (Option V) (Option (InsertRefused K V)) → List (Call K V P) → List (Reply K V P) → Type 0
   GetsOrInsertsIfMade key hash now None (Ok (Some value)) calls replies =
       GetsOrInserts key hash now None (Ok value) calls replies
-  GetsOrInsertsIfMade key hash now None (Ok None) calls replies = ⊥
   GetsOrInsertsIfMade key hash now None (Err refused) calls replies =
       GetsOrInserts key hash now None (Err refused) calls replies
   GetsOrInsertsIfMade key hash now (Some None) (Ok None) calls replies = GetsValue key hash now (Ok None) calls replies
-  GetsOrInsertsIfMade key hash now (Some None) (Ok (Some value)) calls replies = ⊥
-  GetsOrInsertsIfMade key hash now (Some None) (Err refused) calls replies = ⊥
   GetsOrInsertsIfMade key hash now (Some (Some made)) (Ok (Some value)) calls replies =
       GetsOrInserts key hash now (Some made) (Ok value) calls replies
-  GetsOrInsertsIfMade key hash now (Some (Some made)) (Ok None) calls replies = ⊥
   GetsOrInsertsIfMade key hash now (Some (Some made)) (Err refused) calls replies =
       GetsOrInserts key hash now (Some made) (Err refused) calls replies
+  GetsOrInsertsIfMade key hash now made own calls replies = ⊥
 
   -- the same, where the maker may fail: then the get alone, and the maker's error is the answer
   abbrev pub GetsOrInsertsIfNoError : {E : Type 0} → K → ℕ → Instant → Option (Result V E) →
       Result (Result V E) (Option (InsertRefused K V)) → List (Call K V P) → List (Reply K V P) → Type 0
   GetsOrInsertsIfNoError key hash now None (Ok (Ok value)) calls replies =
       GetsOrInserts key hash now None (Ok value) calls replies
-  GetsOrInsertsIfNoError key hash now None (Ok (Err error)) calls replies = ⊥
   GetsOrInsertsIfNoError key hash now None (Err refused) calls replies =
       GetsOrInserts key hash now None (Err refused) calls replies
   GetsOrInsertsIfNoError key hash now (Some (Err failed)) (Ok (Err error)) calls replies = (error ≡ failed)
       × GetsValue key hash now (Ok None) calls replies
-  GetsOrInsertsIfNoError key hash now (Some (Err failed)) (Ok (Ok value)) calls replies = ⊥
-  GetsOrInsertsIfNoError key hash now (Some (Err failed)) (Err refused) calls replies = ⊥
   GetsOrInsertsIfNoError key hash now (Some (Ok made)) (Ok (Ok value)) calls replies =
       GetsOrInserts key hash now (Some made) (Ok value) calls replies
-  GetsOrInsertsIfNoError key hash now (Some (Ok made)) (Ok (Err error)) calls replies = ⊥
   GetsOrInsertsIfNoError key hash now (Some (Ok made)) (Err refused) calls replies =
       GetsOrInserts key hash now (Some made) (Err refused) calls replies
+  GetsOrInsertsIfNoError key hash now made own calls replies = ⊥
 
 -- ---- what is answered
 

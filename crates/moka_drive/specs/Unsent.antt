@@ -1,6 +1,7 @@
 -- Records whose present operation was not sent yet, and what an insert leaves of its key.
-use Rattle.std.specs.Prelude.{◌≡◌, ℕ, Bool, ◌<◌, false, List, [], ◌∷◌, Some, None}
+use Rattle.std.specs.Prelude.{◌≡◌, ℕ, Bool, ◌<◌, false, List, [], Some, None}
 use Rattle.std.specs.FinMap.{get}
+use Rattle.std.specs.List.{AllByRecursion}
 use Rattle.moka_parts.specs.declared.policy.Instant.{Instant}
 use Rattle.moka_parts.specs.declared.records.Record.{Record}
 use Rattle.moka_parts.specs.declared.records.Operation.{Operation}
@@ -24,8 +25,7 @@ module _ {K V : Type 0} (n : ℕ) (r : Record K V) where
 
   -- the same of each
   abbrev pub AreOlder : List Ticketed → Type 0
-  AreOlder [] = Unit {0}
-  AreOlder (h ∷ hs) = IsOlder h.operation × AreOlder hs
+  AreOlder hs = AllByRecursion (λ (h : Ticketed). IsOlder h.operation) hs
 
 -- a record that is held, and of which only older operations are queued, is held afterwards
 abbrev pub HoldsUnsent : {K V X P W : Type 0} → State K V X P W → State K V X P W → Type 0

@@ -18,7 +18,7 @@ ghost use Rattle.moka_parts.specs.Hashing.{key_hash};
 ghost use Rattle.moka_drive.specs.Unsent.{HoldsUnsent, HidesNoMore, IsThere, ShowsWrites};
 ghost use Rattle.moka_drive.specs.Counters.{after_look_up, after_load};
 ghost use Rattle.moka_drive.specs.Given.{Sees};
-ghost use Rattle.moka_drive.specs.Saved.{AreAllMembers, KeepsRecords, TakesOnlyExpired};
+ghost use Rattle.moka_drive.specs.Saved.{HasOnlyMembers, KeepsRecords, TakesOnlyExpired};
 ghost use Rattle.moka_drive.specs.Synchronous.{fresh, value_found, InsertsMade, HandsOutOwn, Makes, meaning_of, hears_clones, Just, own_run, Posts, InsertsEntry, GetsValue, RemovesEntry, removed, invalidated, taken_out, GetsWith, GetsWithIfMade, GetsWithIfNoError};
 
 use crate::error::{GetWithRefused, NotTold};
@@ -176,7 +176,7 @@ impl<
         self.engine.name()
     }
 
-    /// Capacity and times, as they were chosen.
+    /// Capacity and times, as they are set.
     pub fn policy(&self) -> Policy
         ensures { result ≡ limits_of self.now.engine.state }
     {
@@ -326,13 +326,9 @@ impl<
             (GetsValue key.now
             (key_hash S.BuildHasher S.Hasher.Hasher self.old.engine.hasher (K.hash_input key.now)) now own)
             self.old.engine clock.old self.new.engine clock.new }
-        ensures value { IfOk result (λ found. IfSome found (λ v. (r : Record K V)
-            × (record_of_key K.eq self.old.engine.state.records key.now ≡ Some r) × V.is_clone r.value v)) }
         ensures sees { IfOk result (Sees K.eq P.says V.is_clone self.old.engine.state key.now now.0) }
         ensures shown { IfOk result
             (λ found. ContainsStep P.says K.eq self.old.engine.state key.now now.0 (is_some found)) }
-        ensures found { ContainsStep P.says K.eq self.old.engine.state key.now now.0 true
-            → IfOk result (λ found. is_some found ≡ true) }
         ensures unchanged { OnErr result ((self.new.engine.state ≡ self.old.engine.state) × (clock.new ≡ clock.old)) }
         ensures counted { self.new.stats ≡ after_look_up result self.old.stats }
         ensures stays { (p : Record K V) → record_of_key K.eq self.new.engine.state.records key.now ≡ Some p
@@ -350,7 +346,7 @@ impl<
     /// Takes a key out, and hands its value out, expired or not. The listener, if one is set, is notified.
     ///
     /// # Errors
-    /// `NotTold`, with the value, where a listener is set and memory for a clone is refused. The entry is gone all the
+    /// `NotTold`, with the value, if a listener is set and memory for a clone is refused. The entry is gone all the
     /// same.
     pub fn remove<C: Clock>(
         &mut self,
@@ -540,8 +536,8 @@ impl<
         }
     }
 
-    // Makes the run that is due, if one is, and sends the operation; where the queue is full it is emptied by another
-    // run.
+    // Makes the run that is due, if one is, and sends the operation; if the queue is full, another run empties it
+    // before.
     fn post<C: Clock>(
         engine: &mut BaseCache<K, V, S, X, L, P, W>,
         ticket: Ticket,
@@ -640,7 +636,7 @@ impl<
     /// evicted by the runs that follow.
     ///
     /// # Errors
-    /// `ZeroCapacity` where the present capacity or the new one is 0. Nothing has changed.
+    /// `ZeroCapacity` if the present capacity or the new one is 0. Nothing has changed.
     pub fn set_max_capacity(&mut self, capacity: Option<u64>) -> Result<(), CapacityError>
         ensures step { CapacityStep self.old.engine.state capacity result self.new.engine.state }
         ensures events { Befalls L.tells no_events self.old.engine self.new.engine }
@@ -649,8 +645,8 @@ impl<
         self.engine.set_max_capacity(capacity)
     }
 
-    /// Invalidates all entries that were written or read before the moment `now`, also where that is earlier than
-    /// before.
+    /// Invalidates all entries that were written or read before the moment `now`, which replaces that of an earlier
+    /// call.
     pub fn invalidate_all(&mut self, now: Instant)
         ensures step { self.new.engine.state ≡ record self.old.engine.state { invalid_before = Some now } }
         ensures events { Befalls L.tells no_events self.old.engine self.new.engine }
@@ -672,7 +668,7 @@ impl<
             (Just (own_run now) (reply.Run result)) self.old.engine clock.old self.new.engine clock.new }
         ensures exact { IsExact self.new.engine.state }
         ensures within { IsWithin self.new.engine.state.capacity self.new.engine.state.access }
-        ensures members { AreAllMembers self.new.engine.state }
+        ensures members { HasOnlyMembers self.new.engine.state }
         ensures counted { self.new.stats ≡ self.old.stats }
     {
         let (repeats, batch) = (MAX_LOG_SYNC_REPEATS, EVICTION_BATCH_SIZE);
@@ -729,7 +725,7 @@ fn value_of<K: Drop, V>(
     }
 }
 
-// What a removal answers: the value that was taken out, or, where the listener could not be notified, the error with
+// What a removal answers: the value that was taken out, or, if the listener could not be notified, the error with
 // it.
 fn removed<V>(taken: Option<(V, Result<(), OutOfMemory>)>) -> Result<Option<V>, NotTold<V>>
     ensures { result ≡ removed taken }

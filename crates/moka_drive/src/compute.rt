@@ -34,7 +34,7 @@ pub enum Op<V> {
 /// What `compute_with` did. moka: `ops::compute::CompResult`.
 #[derive(Debug, Drop)]
 pub enum CompResult<K, V> {
-    /// The value was put, and the closure had seen none. A cache of capacity 0 drops it instead, and says so too.
+    /// The value was put, and the closure had seen none. A cache of capacity 0 answers this too, and drops it.
     Inserted(CacheEntry<K, V>),
     /// The value was put, and the closure had seen another.
     ReplacedWith(CacheEntry<K, V>),

@@ -8,7 +8,7 @@ ghost use Rattle.moka_parts.specs.Records.{Notice};
 ghost use Rattle.moka_parts.specs.Drives.{Drives};
 ghost use Rattle.moka_parts.specs.Runs.{Befalls};
 ghost use Rattle.moka_parts.specs.declared.calls.Reply.TheVariants.{Report};
-ghost use Rattle.moka_engine.specs.Makes.{Makes};
+ghost use Rattle.moka_engine.specs.Makes.{Makes as MakesCall};
 ghost use Rattle.moka_drive.specs.Replies.{RemovesAndNotifies, NotifiesEntry, TellsPending};
 
 use moka_engine::base_cache::BaseCache;
@@ -34,7 +34,7 @@ use std::hash::{BuildHasher, Hash};
 /// The calls are in the order of time if no insert is earlier than the last write of a record that is there, and each
 /// send moves the oldest operation that waits. If the cache is empty at first and the calls are in the order of time,
 /// such a run also leaves no record past its time to live, and none written before the last invalidation of all. This
-/// applies to caches with a time to live or with predicates.
+/// applies to caches that have a time to live or support predicates.
 ///
 /// # Errors
 /// `OutOfMemory` if there is no room for the replies. The calls come back, and none was made. If a single call is
@@ -95,7 +95,7 @@ fn make<
 ) -> Reply<K, V, P>
     requires keys { ClonesAreEqual K.is_clone }
     requires values { ClonesAreEqual V.is_clone }
-    ensures { Makes (meaning_of K.eq L.tells P.says W.weighs C.reads I.gives X.created X.read X.updated) call
+    ensures { MakesCall (meaning_of K.eq L.tells P.says W.weighs C.reads I.gives X.created X.read X.updated) call
         result cache.old cache.new
         (λ e. Leads C.reads clock.old e.readings clock.new × Leads I.gives ids.old e.ids ids.new) }
 {

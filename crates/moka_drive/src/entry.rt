@@ -24,7 +24,7 @@ pub struct CacheEntry<K, V> {
     pub key: K,
     /// A clone of the value.
     pub value: V,
-    /// Whether the call put the value; a cache of capacity 0 drops it instead, and says so too.
+    /// Whether the call put the value. It is true also of a cache of capacity 0, which drops the value instead.
     pub is_fresh: bool,
     /// Whether the look-up of a call that put the value saw another. A run of maintenance that the look-up started may
     /// have removed that one before.

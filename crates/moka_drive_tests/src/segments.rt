@@ -5,6 +5,7 @@ use moka_engine::{CacheConfig, FixedClock, Instant, NoExpiry, NoListener, Predic
 use moka_segments::SegmentedCache;
 use std::alloc::Global;
 use std::test::Fail;
+use std::time::Duration;
 
 const NOW: Instant = Instant(0);
 
@@ -89,6 +90,23 @@ fn shares_the_capacity(rt: HostRuntime) -> Result<(), Fail> {
         &rt,
         (is_full, whole, is_within, are_shares),
         (true, Some(42), true, true),
+    );
+    Ok(())
+}
+
+#[test]
+fn tells_name_and_policy(rt: HostRuntime) -> Result<(), Fail> {
+    let make = |_| CacheConfig::default().time_to_live(Duration::from_secs(5));
+    let cache = SegmentedCache::<u64, u64>::build(4, Some(42), make, rt.alloc(), NOW);
+    let Ok(cache) = cache else {
+        return Err("memory".into());
+    };
+    let policy = cache.policy();
+    let (most, lasting) = (policy.max_capacity(), policy.time_to_live());
+    assert_equal(
+        &rt,
+        (cache.name().is_none(), most, lasting),
+        (true, Some(42), Some(Duration::from_secs(5))),
     );
     Ok(())
 }

@@ -1,5 +1,6 @@
 -- A cache whose inner part changed: its state, what always holds of it, and what nobody was told.
 use Rattle.std.proofs.Common.{◌≡◌, refl, ℕ, ◌<◌, Bool, List, [], inl, inr, Option, Some, None, is_some, ap, sym, subst, ◌∙◌}
+use Rattle.std.specs.Cmp.{IsEquivalence}
 use Rattle.std.specs.FinMap.{get, insert, remove}
 use Rattle.moka_parts.specs.declared.notification.RemovalCause.{RemovalCause}
 use Rattle.moka_parts.specs.declared.records.Record.{Record}
@@ -7,11 +8,11 @@ use Rattle.moka_parts.specs.Calls.{no_events}
 use Rattle.moka_parts.specs.Records.{Notice, Records, record_of_key}
 use Rattle.moka_parts.specs.Runs.{Engine, Befalls}
 use Rattle.moka_parts.specs.Settling.{IsValid}
-use Rattle.moka_parts.specs.State.{State}
+use Rattle.moka_parts.specs.State.{State, Settings}
 use Rattle.moka_parts.specs.Surroundings.{Heard}
+use Rattle.moka_parts.proofs.Lookup.{present_key}
 use Rattle.moka_store.specs.Store.{Kept}
 use Rattle.moka_store.proofs.Gets.{after_insert, after_remove}
-use Rattle.moka_parts.specs.State.{Settings}
 use Rattle.moka_engine.specs.BaseCache.{IsCache, IsStocked, NoneExpires}
 use Rattle.moka_engine.proofs.Stocked.{stocked-roomier}
 use Rattle.moka_inner.specs.Interior.{Interior}
@@ -19,6 +20,14 @@ use Rattle.moka_inner.specs.Interior.{Interior}
 -- the state with this inner part
 abbrev pub with_inner : {K V X P W S : Type 0} → State K V X P W → Interior K V S → State K V X P W
 with_inner s i = record s { records = i.kept.records; outstanding = i.outstanding; writes = i.writes; reads = i.reads; access = i.kept.access; sketch = i.sketch; next_ticket = i.next_ticket; next_number = i.next_number }
+
+-- the cache with this inner part
+abbrev pub cache_with : {K V S X L P W : Type 0} → Engine K V S X L P W → Interior K V S → Engine K V S X L P W
+cache_with c i = record c { hasher = i.kept.hasher; state = with_inner c.state i; write_list = i.kept.written; room = i.kept.room }
+
+-- what of a store the cache shows beside its state and the room
+abbrev pub order_and_hasher : {K V S : Type 0} → Kept K V S → List ℕ × S
+order_and_hasher kept = (kept.written, kept.hasher)
 
 -- the inner part with no room
 abbrev pub without_room : {K V S : Type 0} → Interior K V S → Interior K V S
@@ -43,29 +52,22 @@ module _ {K V L : Type 0} (tells : L → K → V → RemovalCause → L → Type
   still_set None (Some m) ns h = absurd h
   still_set (Some l) None ns h = absurd h
 
--- a call that tells nothing changes the state alone
-pub befalls-quietly : {K V S X L P W : Type 0} (tells : L → K → V → RemovalCause → L → Type 0) (c : Engine K V S X L P W) (t : State K V X P W) → Befalls tells no_events c (record c { state = t })
-befalls-quietly tells c t = record { kept = refl; heard = nothing_heard tells c.listener; passes = refl; listed = λ none. refl }
+-- where nothing happens, nobody is told
+pub befalls-nothing : {K V S X L P W : Type 0} (tells : L → K → V → RemovalCause → L → Type 0) (c : Engine K V S X L P W) → Befalls tells no_events c c
+befalls-nothing tells c = record { kept = refl; heard = nothing_heard tells c.listener; passes = refl; listed = λ none. refl }
 
--- nor where hasher, write list and room are said anew, by the store
-pub befalls-listed : {K V S X L P W : Type 0} (tells : L → K → V → RemovalCause → L → Type 0) (c : Engine K V S X L P W) (t : State K V X P W) (kept : Kept K V S)
-    → kept.written ≡ c.write_list → kept.hasher ≡ c.hasher → Befalls tells no_events c (record c { hasher = kept.hasher; state = t; write_list = kept.written; room = kept.room })
-befalls-listed {S = S} tells c t kept same hashed = record {
-  kept = ap (λ (h : S). record c { hasher = h; state = t; write_list = kept.written; room = kept.room }) hashed;
-  heard = nothing_heard tells c.listener;
-  passes = refl;
-  listed = λ none. same;
-}
+module _ {K V S X L P W : Type 0} (c : Engine K V S X L P W) (i j : Interior K V S) (held : cache_with c i ≡ c) (same : order_and_hasher j.kept ≡ order_and_hasher i.kept) where
+  -- a change of the inner part that keeps both changes state and room alone
+  pub cache_changed : cache_with c j ≡ record c { state = with_inner c.state j; room = j.kept.room }
+  cache_changed =
+      ap (λ (p : List ℕ × S). record (cache_with c j) { write_list = p.0; hasher = p.1 }) same
+      ∙ ap (λ (x : Engine K V S X L P W). record (cache_with c j) { write_list = x.write_list; hasher = x.hasher }) held
 
--- room is nothing that the order of writing has
-pub list-roomier : {K V S : Type 0} (i j : Interior K V S) → without_room j ≡ without_room i → j.kept.written ≡ i.kept.written
-list-roomier {K} {V} i j same = ap (λ (x : Interior K V _). x.kept.written) same
+  -- and nobody is told
+  pub befalls-inside : (tells : L → K → V → RemovalCause → L → Type 0) → Befalls tells no_events c (cache_with c j)
+  befalls-inside tells = subst (Befalls tells no_events c) (sym cache_changed) (record { kept = refl; heard = nothing_heard tells c.listener; passes = refl; listed = λ none. refl })
 
--- nor has the hasher
-pub hasher-roomier : {K V S : Type 0} (i j : Interior K V S) → without_room j ≡ without_room i → j.kept.hasher ≡ i.kept.hasher
-hasher-roomier {K} {V} i j same = ap (λ (x : Interior K V _). x.kept.hasher) same
-
--- nor have the timers
+-- room is nothing that the timers have
 pub stocked-room : {K V X W S : Type 0} {read : X → K → V → ℕ → Option ℕ → ℕ → Option ℕ} {settings : Settings X W} (i j : Interior K V S) → without_room j ≡ without_room i → IsStocked read settings i.kept → IsStocked read settings j.kept
 stocked-room {read = read} {settings = settings} i j same h =
     stocked-roomier (subst (λ (x : Interior _ _ _). IsStocked read settings x.kept) (sym same) (stocked-roomier h 0)) j.kept.room
@@ -87,26 +89,31 @@ module _ {K V : Type 0} (records : Records K V) (none : NoneExpires records) whe
 -- ---- what always holds
 
 module _ {K V X L P W : Type 0} {eq : K → K → Bool} {l : Option L} {s : State K V X P W} (h : IsCache eq l s) where
-  -- another inner part, whose records do not expire either without an expiry, and whoever listens
-  pub cache-inner : {S : Type 0} → (m : Option L) (j : Interior K V S) → is_some m ≡ is_some l → IsValid eq (with_inner s j) → (s.settings.expiry ≡ None → NoneExpires j.kept.records) → IsCache eq m (with_inner s j)
-  cache-inner m j same valid none = record {
-    valid = valid;
+  -- another inner part that makes another state, whose records do not expire either without an expiry, and whoever
+  -- listens
+  pub cache-inner : {S : Type 0} → (m : Option L) → is_some m ≡ is_some l → (j : Interior K V S) {t : State K V X P W} → with_inner s j ≡ t → IsValid eq t → (s.settings.expiry ≡ None → NoneExpires t.records) → IsCache eq m (with_inner s j)
+  cache-inner m same j is valid none = record {
+    valid = subst (IsValid eq) (sym is) valid;
     served = record {
       unsupported = h.served.unsupported;
-      unexpiring = none;
+      unexpiring = λ unset. subst (λ (t : State K V X P W). NoneExpires t.records) (sym is) (none unset);
     };
     listens = h.listens ∙ sym same;
   }
 
   module _ {S : Type 0} (i : Interior K V S) (inside : with_inner s i ≡ s) where
-    -- without an expiry none of the inner part's records expires
-    pub unexpiring-inside : s.settings.expiry ≡ None → NoneExpires i.kept.records
-    unexpiring-inside none = subst (λ (t : State K V X P W). NoneExpires t.records) (sym inside) (h.served.unexpiring none)
+    -- what stands at a number inside stands there
+    pub there-inside : (n : ℕ) (r : Record K V) → get i.kept.records n ≡ Some r → get s.records n ≡ Some r
+    there-inside n r there = ap (λ (t : State K V X P W). get t.records n) (sym inside) ∙ there
 
-    -- and each stands at its own number, which was given out
+    -- each record stands at its own number, which was given out
     pub number-inside : (n : ℕ) (r : Record K V) → get i.kept.records n ≡ Some r → (r.number ≡ n) × (n < s.next_number)
-    number-inside n r there = h.valid.numbered.numbered.numbered n r (ap (λ (t : State K V X P W). get t.records n) (sym inside) ∙ there)
+    number-inside n r there = h.valid.numbered.numbered.numbered n r (there-inside n r there)
 
     -- the record of a key
     pub key-inside : (key : K) (o : Option (Record K V)) → record_of_key eq i.kept.records key ≡ o → record_of_key eq s.records key ≡ o
     key-inside key o found = ap (λ (t : State K V X P W). record_of_key eq t.records key) (sym inside) ∙ found
+
+    -- each record is its own key's
+    pub own-inside : IsEquivalence eq → (n : ℕ) (r : Record K V) → get i.kept.records n ≡ Some r → record_of_key eq s.records r.key ≡ Some r
+    own-inside laws n r there = present_key eq s.records r.key laws h.valid.numbered.numbered.one_each n r (there-inside n r there) (laws.refl r.key)

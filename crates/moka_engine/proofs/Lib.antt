@@ -1,6 +1,5 @@
 pub mod Stocked
 pub mod EngineSteps
-pub mod ByTests
 pub mod NewSteps
 pub mod SendSteps
 pub mod InsertSteps

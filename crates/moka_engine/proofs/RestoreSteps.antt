@@ -13,11 +13,11 @@ use Rattle.moka_parts.proofs.CallsKeep.{inserted_valid, replaced_from, with_reco
 use Rattle.moka_parts.proofs.Consistent.{renew_kept}
 use Rattle.moka_parts.proofs.Maps.{same_or_apart, get_inserted, get_past_insert}
 use Rattle.moka_engine.specs.declared.base_cache.restores.Restored.{Restored}
-use Rattle.moka_engine.specs.BaseCache.{IsCache, IsStocked, NoneExpires}
+use Rattle.moka_engine.specs.BaseCache.{IsStocked, IsWhole}
 use Rattle.moka_engine.specs.Restores.{is_unsupported, restored_record, restored}
 use Rattle.moka_engine.proofs.Stocked.{stocked-inserted}
 use Rattle.moka_inner.specs.Interior.{Interior, first_record, handing_out_inside}
-use Rattle.moka_engine.proofs.EngineSteps.{with_inner, without_room, inside-roomier, stocked-room, unexpiring-inserted, cache-inner, unexpiring-inside}
+use Rattle.moka_engine.proofs.EngineSteps.{with_inner, without_room, inside-roomier, stocked-room, unexpiring-inserted, cache-inner, key-inside}
 
 -- what is put in twice under a number is what is put in last
 insert_again : {X : Type 0} (m : FinMap nat_cmp X) (n : ℕ) (x y : X) → insert (insert m n x) n y ≡ insert m n y
@@ -28,7 +28,7 @@ insert_again m n x y = same_map nat_cmp_total nat_cmp-IsAntisymmetric (insert (i
 
 module _ {K V X P W : Type 0} (eq : K → K → Bool) where
   -- what always holds does so after an entry is put back
-  pub restored_valid : (s : State K V X P W) (item : Restored K V) (hash w : ℕ) → IsEquivalence eq → is_disabled s.capacity ≡ false → record_of_key eq s.records item.key ≡ None → IsValid eq s → IsValid eq (restored s item hash w)
+  restored_valid : (s : State K V X P W) (item : Restored K V) (hash w : ℕ) → IsEquivalence eq → is_disabled s.capacity ≡ false → record_of_key eq s.records item.key ≡ None → IsValid eq s → IsValid eq (restored s item hash w)
   restored_valid s item hash w laws enabled absent h =
       let created : X → K → V → ℕ → Option ℕ = λ _ _ _ _. None in
       let updating : X → K → V → ℕ → Option ℕ → Option ℕ = λ _ _ _ _ _. None in
@@ -54,20 +54,15 @@ lasts : {A B : Type 0} (e : Option A) (x : Option B) → (is_some e && not (is_s
 lasts None x supported none = refl
 lasts (Some e) x supported none = (let impossible : true ≡ false = rw none at supported in absurd (true≢false impossible))
 
-module _ {K V X L P W S : Type 0} {eq : K → K → Bool} {l : Option L} {s : State K V X P W} (h : IsCache eq l s) (before : Interior K V S) (inside_before : with_inner s before ≡ s) (i j : Interior K V S) (rooms : without_room i ≡ without_room before)
-    (item : Restored K V) (hash w : ℕ) (step : j ≡ record (handing_out_inside i (with_record i.kept.records (record (first_record i.next_number item.key hash (record { value = item.value; now = item.last_modified; expires = item.expires; weight = w })) { read = item.last_accessed })) (Upsert i.next_number 1 w hash) j) { next_number = i.next_number + 1 }) where
-  -- what always holds of the cache
-  pub cache-restored : (laws : IsEquivalence eq) → is_disabled s.capacity ≡ false → record_of_key eq before.kept.records item.key ≡ None → is_unsupported s item ≡ false → IsCache eq l (with_inner s j)
-  cache-restored laws enabled absent supported =
-      let inside = inside-roomier s before i inside_before rooms in
-      let new : Record K V = record (first_record i.next_number item.key hash (record { value = item.value; now = item.last_modified; expires = item.expires; weight = w })) { read = item.last_accessed } in
-      let none : record_of_key eq s.records item.key ≡ None = ap (λ (t : State K V X P W). record_of_key eq t.records item.key) (sym inside_before) ∙ absent in
-      cache-inner h l j refl
-      (subst (IsValid eq) (sym (restores eq s i j inside item hash w step)) (restored_valid eq s item hash w laws enabled none h.valid))
-      (λ unset. subst (λ (x : Interior K V S). NoneExpires x.kept.records) (sym step) (unexpiring-inserted i.kept.records (unexpiring-inside h i inside unset) i.next_number new (lasts item.expires s.settings.expiry supported unset)))
-
-  -- and of its store
-  pub stocked-restored : {read : X → K → V → ℕ → Option ℕ → ℕ → Option ℕ} → IsStocked read s.settings before.kept → IsStocked read s.settings j.kept
-  stocked-restored {read} stocked =
-      let new : Record K V = record (first_record i.next_number item.key hash (record { value = item.value; now = item.last_modified; expires = item.expires; weight = w })) { read = item.last_accessed } in
-      subst (λ (x : Interior K V S). IsStocked read s.settings x.kept) (sym step) (stocked-inserted (stocked-room before i rooms stocked) i.next_number new j.kept.places j.kept.room refl)
+-- what always holds of a cache after an entry was put back, once room was made
+pub whole-restored : {K V X L P W S : Type 0} {eq : K → K → Bool} {read : X → K → V → ℕ → Option ℕ → ℕ → Option ℕ} {l : Option L} {s : State K V X P W} (laws : IsEquivalence eq) (before i j : Interior K V S) → IsWhole eq read l before.kept s → with_inner s before ≡ s → without_room i ≡ without_room before →
+    is_disabled s.capacity ≡ false → (item : Restored K V) (hash w : ℕ) → record_of_key eq before.kept.records item.key ≡ None → is_unsupported s item ≡ false
+    → j ≡ record (handing_out_inside i (with_record i.kept.records (record (first_record i.next_number item.key hash (record { value = item.value; now = item.last_modified; expires = item.expires; weight = w })) { read = item.last_accessed })) (Upsert i.next_number 1 w hash) j) { next_number = i.next_number + 1 } → IsWhole eq read l j.kept (with_inner s j)
+whole-restored {K} {V} {X} {L} {P} {W} {S} {eq} {read} {l} {s} laws before i j h inside_before rooms enabled item hash w absent supported step =
+    let inside = inside-roomier s before i inside_before rooms in
+    let new : Record K V = record (first_record i.next_number item.key hash (record { value = item.value; now = item.last_modified; expires = item.expires; weight = w })) { read = item.last_accessed } in
+    record {
+      cache = cache-inner h.cache l refl j (restores eq s i j inside item hash w step) (restored_valid eq s item hash w laws enabled (key-inside h.cache before inside_before item.key None absent) h.cache.valid)
+          (λ unset. unexpiring-inserted s.records (h.cache.served.unexpiring unset) s.next_number (restored_record s item hash w) (lasts item.expires s.settings.expiry supported unset));
+      store = subst (λ (x : Interior K V S). IsStocked read s.settings x.kept) (sym step) (stocked-inserted (stocked-room before i rooms h.store) i.next_number new j.kept.places j.kept.room refl);
+    }

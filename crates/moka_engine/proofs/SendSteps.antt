@@ -1,29 +1,40 @@
--- A send keeps what always holds of a cache.
-use Rattle.std.proofs.Common.{◌≡◌, refl, ℕ, Bool, [], ◌∷◌, ◌++◌, Option, Some, Result, Ok, Err, OnOk, OnErr, ap, sym, subst}
+-- A send keeps what always holds of a cache, and tells nobody.
+use Rattle.std.proofs.Common.{◌≡◌, ℕ, Bool, [], ◌∷◌, ◌++◌, Option, Some, Result, Ok, Err, OnOk, OnErr, refl, ap, sym, subst, ◌∙◌}
 use Rattle.std.specs.FinMap.{get, remove}
 use Rattle.moka_parts.specs.declared.error.SendError.{SendError}
 use Rattle.moka_parts.specs.declared.records.Operation.{Operation}
-use Rattle.moka_parts.specs.Settling.{IsValid}
+use Rattle.moka_parts.specs.declared.notification.RemovalCause.{RemovalCause}
+use Rattle.moka_parts.specs.Calls.{no_events}
+use Rattle.moka_parts.specs.Runs.{Engine, Befalls}
 use Rattle.moka_parts.specs.State.{State}
 use Rattle.moka_parts.proofs.StepsKeep.{sent_valid}
-use Rattle.moka_engine.specs.BaseCache.{IsCache}
 use Rattle.moka_inner.specs.Interior.{Interior}
-use Rattle.moka_engine.proofs.EngineSteps.{with_inner, cache-inner, unexpiring-inside}
+use Rattle.moka_engine.specs.BaseCache.{IsCache, IsStocked, IsWhole}
+use Rattle.moka_engine.proofs.EngineSteps.{with_inner, cache_with, order_and_hasher, befalls-inside, cache-inner}
 
-module _ {K V X L P W S : Type 0} {eq : K → K → Bool} {l : Option L} {s : State K V X P W} (h : IsCache eq l s) (i j : Interior K V S) (inside : with_inner s i ≡ s) where
-  -- whatever the answer
-  pub cache-sent : (ticket : ℕ) (a : Result (Unit {0}) SendError)
-      → OnOk a ((o : Operation) × (get i.outstanding ticket ≡ Some o) × (j ≡ record i { outstanding = remove i.outstanding ticket; writes = i.writes ++ record { ticket = ticket; operation = o } ∷ []; operation_room = j.operation_room }))
-      → OnErr a (j ≡ record i { operation_room = j.operation_room }) → IsCache eq l (with_inner s j)
-  cache-sent ticket (Ok _) ok err =
-      let after = record i { outstanding = remove i.outstanding ticket; writes = i.writes ++ record { ticket = ticket; operation = ok.0 } ∷ []; operation_room = j.operation_room } in
-      let valid : IsValid eq (with_inner s i) = subst (IsValid eq) (sym inside) h.valid in
-      rw ok.2 (cache-inner h l after refl (sent_valid eq (with_inner s i) ticket ok.0 ok.1 valid) (unexpiring-inside h i inside))
-  cache-sent ticket (Err e) ok err = rw err (subst (IsCache eq l) (sym inside) h)
+module _ {K V S : Type 0} (i j : Interior K V S) (ticket : ℕ) where
+  -- what a send of the ticket with this answer makes of the inner part
+  abbrev Sends : Result (Unit {0}) SendError → Type 0
+  Sends a =
+      OnOk a ((o : Operation) × (get i.outstanding ticket ≡ Some o) × (j ≡ record i { outstanding = remove i.outstanding ticket; writes = i.writes ++ record { ticket = ticket; operation = o } ∷ []; operation_room = j.operation_room }))
+      × OnErr a (j ≡ record i { operation_room = j.operation_room })
 
   -- the store is as before
-  pub send-keeps : (ticket : ℕ) (a : Result (Unit {0}) SendError)
-      → OnOk a ((o : Operation) × (get i.outstanding ticket ≡ Some o) × (j ≡ record i { outstanding = remove i.outstanding ticket; writes = i.writes ++ record { ticket = ticket; operation = o } ∷ []; operation_room = j.operation_room }))
-      → OnErr a (j ≡ record i { operation_room = j.operation_room }) → j.kept ≡ i.kept
-  send-keeps ticket (Ok _) ok err = ap (λ (x : Interior K V S). x.kept) ok.2
-  send-keeps ticket (Err e) ok err = ap (λ (x : Interior K V S). x.kept) err
+  send-keeps : (a : Result (Unit {0}) SendError) → Sends a → j.kept ≡ i.kept
+  send-keeps (Ok _) sent = ap (λ (x : Interior K V S). x.kept) sent.0.2
+  send-keeps (Err e) sent = ap (λ (x : Interior K V S). x.kept) sent.1
+
+  -- what always holds of the cache
+  pub whole-sent : {X L P W : Type 0} {eq : K → K → Bool} {read : X → K → V → ℕ → Option ℕ → ℕ → Option ℕ} {l : Option L} {s : State K V X P W} → IsWhole eq read l i.kept s → with_inner s i ≡ s → (a : Result (Unit {0}) SendError) → Sends a → IsWhole eq read l j.kept (with_inner s j)
+  whole-sent {X} {L} {P} {W} {eq} {read} {l} {s} h inside a sent = record { cache = cache a sent; store = subst (IsStocked read s.settings) (sym (send-keeps a sent)) h.store }
+    where
+      cache : (a : Result (Unit {0}) SendError) → Sends a → IsCache eq l (with_inner s j)
+      cache (Ok _) sent =
+          let o = sent.0.0 in
+          let is = ap (with_inner s) sent.0.2 ∙ ap (λ (t : State K V X P W). record t { outstanding = remove t.outstanding ticket; writes = t.writes ++ record { ticket = ticket; operation = o } ∷ [] }) inside in
+          cache-inner h.cache l refl j is (sent_valid eq s ticket o (ap (λ (t : State K V X P W). get t.outstanding ticket) (sym inside) ∙ sent.0.1) h.cache.valid) h.cache.served.unexpiring
+      cache (Err e) sent = subst (IsCache eq l) (sym (ap (with_inner s) sent.1 ∙ inside)) h.cache
+
+  -- nobody is told
+  pub befalls-sent : {X L P W : Type 0} (tells : L → K → V → RemovalCause → L → Type 0) {old now : Engine K V S X L P W} → old ≡ now → cache_with old i ≡ old → (a : Result (Unit {0}) SendError) → Sends a → Befalls tells no_events now (cache_with old j)
+  befalls-sent tells {old} is held a sent = subst (λ c. Befalls tells no_events c (cache_with old j)) is (befalls-inside old i j held (ap order_and_hasher (send-keeps a sent)) tells)

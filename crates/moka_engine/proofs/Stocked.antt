@@ -5,7 +5,7 @@ use Rattle.std.specs.Ordering.{nat_cmp}
 use Rattle.moka_parts.specs.declared.policy.Instant.{Instant}
 use Rattle.moka_parts.specs.declared.records.Record.{Record}
 use Rattle.moka_parts.specs.Expiry.{answer_to_hit, remaining, renewed}
-use Rattle.moka_parts.specs.Records.{counted_of, is_applied}
+use Rattle.moka_parts.specs.Records.{Records, counted_of, is_applied}
 use Rattle.moka_parts.specs.Settling.{IsConsistentState, IsTracked, IsWaiting, NeverRenews}
 use Rattle.moka_parts.specs.State.{State, Settings, keeps_write_list}
 use Rattle.moka_parts.specs.Time.{is_same_duration, moment_of}
@@ -14,7 +14,7 @@ use Rattle.moka_store.specs.Store.{Kept}
 use Rattle.moka_store.specs.Updates.{updated}
 use Rattle.moka_store.specs.declared.store.Update.{Update}
 use Rattle.moka_store.proofs.Gets.{after_insert, after_remove}
-use Rattle.moka_maintenance.specs.Timers.{KeepsTimers}
+use Rattle.moka_maintenance.specs.Timers.{AreTimed, KeepsTimers}
 use Rattle.moka_maintenance.proofs.Timing.{still-timed}
 use Rattle.moka_engine.specs.BaseCache.{IsStocked}
 use Rattle.moka_inner.specs.Interior.{Interior, nothing_inside}
@@ -32,37 +32,31 @@ module _ {K V X W S : Type 0} {read : X → K → V → ℕ → Option ℕ → �
   pub stocked-roomier : (room : ℕ) → IsStocked read settings (record kept { room = room })
   stocked-roomier room = record { ordered = h.ordered; timed = h.timed; timers = h.timers }
 
+  -- other records, where the timers stand at their expiries
+  stocked-with : (records : Records K V) (places : FinMap nat_cmp ℕ) (room : ℕ) → (NeverRenews read settings.expiry → AreTimed kept → AreTimed (record kept { records = records; places = places; room = room })) → IsStocked read settings (record kept { records = records; places = places; room = room })
+  stocked-with records places room on = record { ordered = h.ordered; timed = h.timed; timers = λ never timed. on never (h.timers never timed) }
+
   -- a record that has not seen its newest operation is put in
   pub stocked-inserted : (n : ℕ) (q : Record K V) (places : FinMap nat_cmp ℕ) (room : ℕ) → is_applied q ≡ false → IsStocked read settings (record kept { records = insert kept.records n q; places = places; room = room })
-  stocked-inserted n q places room waiting = record {
-    ordered = h.ordered;
-    timed = h.timed;
-    timers = λ never timed k r there is_in applied. elim (after_insert kept.records n q k r there) [
-      | inl new ↦ absurd (true≢false (sym applied ∙ ap is_applied new.1 ∙ waiting))
-      | inr old ↦ h.timers never timed k r old.1 is_in applied
-    ];
-  }
+  stocked-inserted n q places room waiting = stocked-with (insert kept.records n q) places room (λ never timers k r there is_in applied. elim (after_insert kept.records n q k r there) [
+    | inl new ↦ absurd (true≢false (sym applied ∙ ap is_applied new.1 ∙ waiting))
+    | inr old ↦ timers k r old.1 is_in applied
+  ])
 
   -- a record is taken out
   pub stocked-removed : (n : ℕ) (places : FinMap nat_cmp ℕ) (room : ℕ) → IsStocked read settings (record kept { records = remove kept.records n; places = places; room = room })
-  stocked-removed n places room = record {
-    ordered = h.ordered;
-    timed = h.timed;
-    timers = λ never timed k r there is_in applied. h.timers never timed k r (after_remove kept.records n k r there).1 is_in applied;
-  }
+  stocked-removed n places room = stocked-with (remove kept.records n) places room (λ never timers k r there is_in applied. timers k r (after_remove kept.records n k r there).1 is_in applied)
 
   -- a record was read
   pub stocked-touched : (n : ℕ) (r : Record K V) (at : Instant) (expires : Option Instant) → get kept.records n ≡ Some r → (NeverRenews read settings.expiry → expires ≡ r.expires) → IsStocked read settings (record kept { records = insert kept.records n (record r { read = at; expires = expires }) })
-  stocked-touched n r at expires found same = record {
-    ordered = h.ordered;
-    timed = h.timed;
-    timers = λ never timed k q there is_in applied. elim (after_insert kept.records n (record r { read = at; expires = expires }) k q there) [
-      | inl new ↦
-          (let before = h.timers never timed k r (ap (get kept.records) new.0 ∙ found) is_in (sym (ap is_applied new.1) ∙ applied) in
-          before ∙ sym (ap (λ (x : Record K V). moment_of x.expires) new.1 ∙ ap moment_of (same never)))
-      | inr old ↦ h.timers never timed k q old.1 is_in applied
-    ];
-  }
+  stocked-touched n r at expires found same =
+      let q : Record K V = record r { read = at; expires = expires } in
+      stocked-with (insert kept.records n q) kept.places kept.room (λ never timers k p there is_in applied. elim (after_insert kept.records n q k p there) [
+        | inl new ↦
+            let before = timers k r (ap (get kept.records) new.0 ∙ found) is_in (sym (ap is_applied new.1) ∙ applied) in
+            before ∙ sym (ap (λ (x : Record K V). moment_of x.expires) new.1 ∙ ap moment_of (same never))
+        | inr old ↦ timers k p old.1 is_in applied
+      ])
 
 -- a record with one more generation has not seen its newest operation
 pub update_waits : {K V X P W : Type 0} (s : State K V X P W) → IsConsistentState s → (n : ℕ) (r : Record K V) → get s.records n ≡ Some r → (update : Update V) → is_applied (updated update r) ≡ false

@@ -109,7 +109,7 @@ pub record IsCache {K V X L P W : Type 0} (eq : K → K → Bool) (listener : Op
   pub served : IsServed s
   pub listens : s.settings.listening ≡ is_some listener
 
--- both
+-- the cache and its store
 pub record IsWhole {K V X L P W S : Type 0} (eq : K → K → Bool) (read : X → K → V → ℕ → Option ℕ → ℕ → Option ℕ)
     (listener : Option L) (kept : Kept K V S) (s : State K V X P W) : Type 0 where
   pub cache : IsCache eq listener s

@@ -1,11 +1,9 @@
 pub mod BaseCache
 pub mod Config
 pub mod Looks
-pub mod LooksBy
 pub mod Sights
 pub mod Snapshots
 pub mod Restores
-pub mod EngineRuns
 pub mod Makes
 pub mod parts
 pub use Rattle.moka_parts.specs.Time

@@ -7,7 +7,6 @@ use Rattle.moka_parts.specs.declared.records.Record.{Record}
 use Rattle.moka_parts.specs.declared.records.Registered.{Registered}
 use Rattle.moka_parts.specs.Expiry.{is_renewal, renewed, moment_of_hit, answer_to_hit}
 use Rattle.moka_parts.specs.Policy.{Expirations}
-use Rattle.moka_parts.specs.Records.{record_of_key}
 use Rattle.moka_parts.specs.Visibility.{has_lapsed, SomeCovers, NoneCovers}
 use Rattle.moka_store.specs.declared.store.Handle.{Handle}
 use Rattle.moka_store.specs.Store.{Kept, IsHandle}
@@ -17,21 +16,21 @@ use Rattle.moka_engine.specs.BaseCache.{expiring_by}
 abbrev pub value_of : {K V : Type 0} → Option (Record K V) → Option V
 value_of found = option_map (λ r. r.value) found
 
-module _ {K V X P S : Type 0} (eq : K → K → Bool) (kept : Kept K V S) (expirations : Expirations X)
-    (bound : Option Instant) (says : P → K → V → Bool → Type 0) (predicates : List (Registered P)) (key : K) where
-  -- this record, at this handle, is the key's; no test of the caller's ignored it, no moment hides it, and no predicate
-  -- covers it
+module _ {K V X P S : Type 0} (kept : Kept K V S) (expirations : Expirations X) (bound : Option Instant)
+    (says : P → K → V → Bool → Type 0) (predicates : List (Registered P)) (sought : Option (Record K V)) where
+  -- this record, at this handle, is the one sought; no test of the caller's ignored it, no moment hides it, and no
+  -- predicate covers it
   pub record IsFound (ignored : Bool) (now : ℕ) (handle : Handle) (r : Record K V) : Type 0 where
     pub placed : IsHandle kept handle
     pub numbered : get kept.records handle.number ≡ Some r
-    pub found : record_of_key eq kept.records key ≡ Some r
+    pub found : sought ≡ Some r
     pub accepted : ignored ≡ false
     pub shown : has_lapsed (expiring_by expirations) bound r now ≡ false
     pub uncovered : NoneCovers says predicates r
 
-  -- where nothing is found, the key's record, if it has one, was ignored or is hidden
+  -- where nothing is found, the record sought, if there is one, was ignored or is hidden
   abbrev pub Finds : Bool → ℕ → Option (Handle × Record K V) → Type 0
-  Finds ignored now None = (r : Record K V) → record_of_key eq kept.records key ≡ Some r → (ignored ≡ true)
+  Finds ignored now None = (r : Record K V) → sought ≡ Some r → (ignored ≡ true)
       ⊎ ((has_lapsed (expiring_by expirations) bound r now ≡ true) ⊎ SomeCovers says predicates r)
   Finds ignored now (Some found) = IsFound ignored now found.0 found.1
 

@@ -1,8 +1,10 @@
 -- One relation over every call: what it replies, the cache before and after it, and what its surroundings go through.
-use Rattle.std.specs.Prelude.{ℕ, Bool, Option, List}
+use Rattle.std.specs.Prelude.{◌≡◌, ℕ, Bool, Option, List}
 use Rattle.moka_parts.specs.declared.calls.Call.{Call}
 use Rattle.moka_parts.specs.declared.calls.Reply.{Reply}
 use Rattle.moka_parts.specs.declared.notification.RemovalCause.{RemovalCause}
+use Rattle.moka_parts.specs.declared.policy.Instant.{Instant}
+use Rattle.moka_parts.specs.Calls.{RunStep}
 use Rattle.moka_parts.specs.Listed.{ListedRun}
 use Rattle.moka_parts.specs.Runs.{Engine, Befalls, CallStep}
 use Rattle.moka_parts.specs.Maintenance.{Terms, Course}
@@ -26,6 +28,14 @@ module _ {K V S X L P W : Type 0} (says : P → K → V → Bool → Type 0) (re
   Takes Step old new Sees = (e : Events K V)
       × Step (ListedRun says read old.write_list new.write_list) old.state e new.state × Befalls tells e old new
       × Sees e
+
+  -- a run with this limit and batch may read the clock so, answer so, and lead from the first cache to the second; the
+  -- repeats have no effect
+  abbrev pub EngineRuns : Engine K V S X L P W → ℕ → Option ℕ → ℕ → ℕ → List Instant → Bool → Engine K V S X L P W →
+      Type 0
+  EngineRuns old now limit repeats batch readings answer new =
+      Takes (λ Runs s. RunStep Runs s (record { now = now; limit = limit; batch = batch }) answer) old new
+      (λ e. e.readings ≡ readings)
 
 module _ {K V S X L P W C I : Type 0} (m : Meaning K V X L P W C I) where
   -- the call gives the reply and leads from the first cache to the second, with events of which this holds

@@ -4,11 +4,11 @@
 //!
 //! A caller makes do with `hash`, `do_insert_with_own_hash`, `send`, `get_with_own_hash`, `contains_key_with_own_hash`,
 //! `remove_entry_with_own_hash` with `notify_invalidate`, `invalidate_all`, `invalidate_entries_if` and
-//! `run_pending_tasks`. Their namesakes `.._with_hash` and `remove_entry` take any hash, as moka's do, and make that
-//! of the map themselves; `.._by` spare the key. `set_max_capacity`, `snapshot` with `restore`, and `disable_auto_run`
-//! are calls of our own or of moka's housekeeper. The others report, or stand for what moka's layers above the engine
-//! call: `apply_reads_writes_if_needed` before each send, `keys`, `num_cht_segments` and `scanning_get` in an
-//! iteration.
+//! `run_pending_tasks`. Their namesakes `.._with_hash` and `remove_entry` take any hash, as moka's do, and hash the key
+//! for the map themselves; `.._by` take a test in place of a key. `set_max_capacity`, `snapshot` with `restore`, and
+//! `disable_auto_run` are calls of our own or of moka's housekeeper. The others report, or stand for what moka's layers
+//! above the engine call: `apply_reads_writes_if_needed` before each send, and `keys`, `num_cht_segments` and
+//! `scanning_get` in an iteration.
 #![tactic(auto)]
 
 pub mod base_cache;

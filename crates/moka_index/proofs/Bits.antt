@@ -1,6 +1,6 @@
 -- The bits of a mask of lanes.
-use Rattle.std.specs.Prelude.{◌≡◌, ℕ, zero, suc, ◌%◌, ◌^◌, ◌<◌, true, false, cond, eqb, List, [], ◌∷◌, map, get_or, replicate}
-use mathlib.Core.Path.{refl, sym, subst}
+use Rattle.std.specs.Prelude.{◌≡◌, ℕ, zero, suc, ◌%◌, ◌^◌, ◌<◌, false, cond, eqb, List, [], ◌∷◌, map, get_or, replicate}
+use mathlib.Core.Path.{refl, sym, subst, ◌∙◌}
 use native.Mathlib.Omega.{arith}
 use lib.Lanes.{zip2, mask_l, top}
 use borrow.Author.Tests.{eq-eqb, eqb-true}
@@ -13,28 +13,19 @@ use Rattle.std_collections.specs.IndexTable.Group.{IsBitSet}
 abbrev pub eight : List ℕ → ℕ → List ℕ
 eight hs more = get_or hs 0 0 ∷ get_or hs 1 0 ∷ get_or hs 2 0 ∷ get_or hs 3 0 ∷ get_or hs 4 0 ∷ get_or hs 5 0 ∷ get_or hs 6 0 ∷ more ∷ []
 
-lane_set : (hs : List ℕ) (more y k : ℕ) → k < 7 → get_or hs k 0 ≡ y → get_or (map (λ x. eqb x y) (eight hs more)) k false ≡ true
-lane_set hs more y zero l e = eq-eqb _ y e
-lane_set hs more y (suc zero) l e = eq-eqb _ y e
-lane_set hs more y (suc (suc zero)) l e = eq-eqb _ y e
-lane_set hs more y (suc (suc (suc zero))) l e = eq-eqb _ y e
-lane_set hs more y (suc (suc (suc (suc zero)))) l e = eq-eqb _ y e
-lane_set hs more y (suc (suc (suc (suc (suc zero))))) l e = eq-eqb _ y e
-lane_set hs more y (suc (suc (suc (suc (suc (suc zero)))))) l e = eq-eqb _ y e
-lane_set hs more y (suc (suc (suc (suc (suc (suc (suc k))))))) l e = absurd (omega arith)
+-- what each of the seven lanes says
+lane_bit : (hs : List ℕ) (more y k : ℕ) → k < 7 → get_or (map (λ x. eqb x y) (eight hs more)) k false ≡ eqb (get_or hs k 0) y
+lane_bit hs more y zero l = refl
+lane_bit hs more y (suc zero) l = refl
+lane_bit hs more y (suc (suc zero)) l = refl
+lane_bit hs more y (suc (suc (suc zero))) l = refl
+lane_bit hs more y (suc (suc (suc (suc zero)))) l = refl
+lane_bit hs more y (suc (suc (suc (suc (suc zero))))) l = refl
+lane_bit hs more y (suc (suc (suc (suc (suc (suc zero)))))) l = refl
+lane_bit hs more y (suc (suc (suc (suc (suc (suc (suc k))))))) l = absurd (omega arith)
 
 pub bit_of_match : (hs : List ℕ) (more y k : ℕ) → k < 7 → get_or hs k 0 ≡ y → IsBitSet (mask_l (map (top 31) (zip2 (λ a b. cond (eqb a b) 4294967295 0) (eight hs more) (replicate 8 y))) % 2 ^ 64) k
-bit_of_match hs more y k l e = subst (λ n. IsBitSet n k) (sym (bitmask_splat w32 eqb (eight hs more) 8 y refl (omega arith))) (bit_mask (map (λ x. eqb x y) (eight hs more)) k (lane_set hs more y k l e))
-
-set_lane : (hs : List ℕ) (more y k : ℕ) → k < 7 → get_or (map (λ x. eqb x y) (eight hs more)) k false ≡ true → get_or hs k 0 ≡ y
-set_lane hs more y zero l e = eqb-true _ y e
-set_lane hs more y (suc zero) l e = eqb-true _ y e
-set_lane hs more y (suc (suc zero)) l e = eqb-true _ y e
-set_lane hs more y (suc (suc (suc zero))) l e = eqb-true _ y e
-set_lane hs more y (suc (suc (suc (suc zero)))) l e = eqb-true _ y e
-set_lane hs more y (suc (suc (suc (suc (suc zero))))) l e = eqb-true _ y e
-set_lane hs more y (suc (suc (suc (suc (suc (suc zero)))))) l e = eqb-true _ y e
-set_lane hs more y (suc (suc (suc (suc (suc (suc (suc k))))))) l e = absurd (omega arith)
+bit_of_match hs more y k l e = subst (λ n. IsBitSet n k) (sym (bitmask_splat w32 eqb (eight hs more) 8 y refl (omega arith))) (bit_mask (map (λ x. eqb x y) (eight hs more)) k (lane_bit hs more y k l ∙ eq-eqb (get_or hs k 0) y e))
 
 pub match_of_bit : (hs : List ℕ) (more y k : ℕ) → k < 7 → IsBitSet (mask_l (map (top 31) (zip2 (λ a b. cond (eqb a b) 4294967295 0) (eight hs more) (replicate 8 y))) % 2 ^ 64) k → get_or hs k 0 ≡ y
-match_of_bit hs more y k l s = set_lane hs more y k l (lane_from_bit (map (λ x. eqb x y) (eight hs more)) k (subst (λ n. IsBitSet n k) (bitmask_splat w32 eqb (eight hs more) 8 y refl (omega arith)) s))
+match_of_bit hs more y k l s = eqb-true (get_or hs k 0) y (sym (lane_bit hs more y k l) ∙ lane_from_bit (map (λ x. eqb x y) (eight hs more)) k (subst (λ n. IsBitSet n k) (bitmask_splat w32 eqb (eight hs more) 8 y refl (omega arith)) s))

@@ -1,17 +1,18 @@
 -- The groups after each call.
-use Rattle.std.proofs.Common.{◌≡◌, ◌≢◌, ℕ, ◌+◌, ◌-◌, ◌*◌, ◌/◌, ◌%◌, ◌^◌, ◌<◌, ◌≤◌, max, Some, None, List, length, ◌⊎◌, inl, inr, refl, sym, ap, subst, ◌∙◌, arith}
+use Rattle.std.proofs.Common.{◌≡◌, ◌≢◌, ℕ, ◌+◌, ◌-◌, ◌*◌, ◌/◌, ◌%◌, ◌^◌, ◌<◌, ◌≤◌, max, Option, Some, None, List, length, ◌⊎◌, inl, inr, refl, sym, ap, subst, ◌∙◌, arith}
 use Rattle.std.proofs.lemmas.Bool.{cases_eq, cases_lt}
 use Rattle.std.proofs.lemmas.List.{length-set}
-use Rattle.std.specs.Prelude.{slice_set}
+use Rattle.std.specs.Prelude.{slice_index_or, slice_set}
 use Rattle.std.specs.FinMap.{FinMap, get, insert, remove, len}
 use Rattle.std.specs.Ordering.{nat_cmp}
 use Rattle.std.proofs.lemmas.Option.{same_Some}
 use Rattle.moka_index.specs.declared.group.Group.{Group}
 use Rattle.moka_index.specs.Group.{lane_hash, lane_place, entry_in, with_entry, without_lane, raised, home, HasLanes}
-use Rattle.moka_index.specs.Groups.{entry_at, group_at, pushed, with_reach, probe, distance, upto, entries_of, IsShaped, IsReached, IsGroups, IsExactAt, AreExactBut, IsTight}
+use Rattle.moka_index.specs.EntryMap.{upto}
+use Rattle.moka_index.specs.Groups.{entry_at, group_at, pushed, with_reach, probe, distance, entries_of, IsShaped, IsReached, IsGroups, IsExactAt, AreExactBut, IsTight}
 use Rattle.moka_index.proofs.Probes.{distance-probe}
-use Rattle.moka_index.proofs.Lanes.{entry-here, entry-free, entry-below, with-here, with-other, with-lanes, without-last, without-here, without-other, without-lanes, group-set, group-past_set, entry-inside, entry-at_lane, lane-group}
-use Rattle.moka_index.proofs.Maps.{Becomes, becomes-insert_entry, becomes-removed, becomes-same, has-upto, found-upto, len-full}
+use Rattle.moka_index.proofs.Lanes.{blank, group-read, entry-here, entry-free, entry-below, with-here, with-other, with-lanes, without-last, without-here, without-other, without-lanes, group-set, group-past_set, entry-inside, entry-at_lane, lane-group}
+use Rattle.moka_index.proofs.Maps.{Becomes, becomes-inserted, becomes-removed, becomes-same, has-upto, found-upto, len-full}
 
 pub lanes-of : (groups : List Group) → IsGroups groups → (i : ℕ) → HasLanes (group_at groups i)
 lanes-of groups g i = (g.shaped i).lanes
@@ -26,6 +27,27 @@ group-cases groups at g i l = elim (cases_eq i at) as (λ _. ((i ≡ at) × (gro
   | inr ne ↦ inr (ne, group-past_set groups at i g ne)
 ]
 
+-- what a write leaves of each group
+group-keeps : {B : Type 0} (h : Group → B) (groups : List Group) (at : ℕ) (g : Group) → at < length groups → (i : ℕ) → (i ≡ at → h g ≡ h (group_at groups at)) → h (group_at (slice_set groups at g) i) ≡ h (group_at groups i)
+group-keeps h groups at g l i same = elim (group-cases groups at g i l) as (λ _. h (group_at (slice_set groups at g) i) ≡ h (group_at groups i)) [
+  | inl c ↦ ap h c.1 ∙ same c.0 ∙ ap (λ j. h (group_at groups j)) (sym c.0)
+  | inr c ↦ ap h c.1
+]
+
+-- what holds of the group that is written, and of all others
+group-all : (P : Group → Type 0) (groups : List Group) (at : ℕ) (g : Group) → at < length groups → P g → ((i : ℕ) → P (group_at groups i)) → (i : ℕ) → P (group_at (slice_set groups at g) i)
+group-all P groups at g l own others i = elim (group-cases groups at g i l) as (λ _. P (group_at (slice_set groups at g) i)) [
+  | inl c ↦ subst P (sym c.1) own
+  | inr c ↦ subst P (sym c.1) (others i)
+]
+
+-- a place in a group that was read is in its lane of the table
+pub lane-read : (groups : List Group) → IsGroups groups → (at lane p h : ℕ) → at < length groups → entry_in (slice_index_or groups at blank) lane ≡ Some (p, h) → (lane < 7) × (entry_at groups (7 * at + lane) ≡ Some (p, h))
+lane-read groups g at lane p h at_in there =
+    let here : entry_in (group_at groups at) lane ≡ Some (p, h) = ap (λ x. entry_in x lane) (sym (group-read groups at blank at_in)) ∙ there in
+    let small : lane < 7 = omega (arith, entry-below (group_at groups at) lane (p, h) here, (lanes-of groups g at).count) in
+    (small, entry-at_lane groups at lane small ∙ here)
+
 -- the map has the hash of the place in each lane
 pub get-entry : (groups : List Group) → IsGroups groups → (q p h : ℕ) → entry_at groups q ≡ Some (p, h) → get (entries_of groups) p ≡ Some h
 unfolding entries_of
@@ -34,7 +56,7 @@ get-entry groups g q p h e = has-upto (entry_at groups) g.apart (7 * length grou
 -- the lane that a place of the map is in
 pub entry-found : (groups : List Group) (p h : ℕ) → get (entries_of groups) p ≡ Some h → (q : ℕ) × ((q < 7 * length groups) × (entry_at groups q ≡ Some (p, h)))
 unfolding entries_of
-entry-found groups p h e = let w = found-upto (entry_at groups) (7 * length groups) p h e in (w.lane, (w.within, w.at_is))
+entry-found groups p h e = let w = found-upto (entry_at groups) (7 * length groups) p h e in (w.place, (w.within, w.at_is))
 
 -- where no group has a free lane, the table is full
 pub full-len : (groups : List Group) → IsGroups groups → ((i : ℕ) → i < length groups → 7 ≤ (group_at groups i).count) → len (entries_of groups) ≡ 7 * length groups
@@ -43,12 +65,23 @@ full-len groups g full = len-full (entry_at groups) g.apart (7 * length groups) 
     let i : q / 7 < length groups = omega arith in
     let lane : q % 7 < (group_at groups (q / 7)).count = omega (arith, full (q / 7) i) in
     let some = entry-here (group_at groups (q / 7)) (q % 7) lane in
-    let bad : None ≡ Some (lane_place (group_at groups (q / 7)) (q % 7), lane_hash (group_at groups (q / 7)) (q % 7)) = sym none ∙ some in absurd cc)
+    cc)
 
 -- the reach of a group changes no place
-pub record-reach : (g : Group) (r lane : ℕ) → entry_in (record g { reach = r }) lane ≡ entry_in g lane
+record-reach : (g : Group) (r lane : ℕ) → entry_in (record g { reach = r }) lane ≡ entry_in g lane
 unfolding entry_in
 record-reach g r lane = refl
+
+reach-entry : (groups : List Group) (first r : ℕ) → first < length groups → (q : ℕ) → entry_at (slice_set groups first (record (group_at groups first) { reach = r })) q ≡ entry_at groups q
+reach-entry groups first r l q = group-keeps (λ x. entry_in x (q % 7)) groups first (record (group_at groups first) { reach = r }) l (q / 7) (λ _. record-reach (group_at groups first) r (q % 7))
+
+-- nor what a group must be
+reach-shaped : (n r : ℕ) (g : Group) → HasLanes g → (0 < n → r < n) → IsShaped n (record g { reach = r })
+reach-shaped n r g lanes less = record { lanes = record { hashes = lanes.hashes; places = lanes.places; count = lanes.count }; reach = less }
+
+-- what was that far behind its home is so still, where places stay in their lanes
+exact-kept : (n : ℕ) (old new : ℕ → Option (ℕ × ℕ)) (r i : ℕ) → ((q : ℕ) (e : ℕ × ℕ) → old q ≡ Some e → new q ≡ Some e) → IsExactAt n old r i → IsExactAt n new r i
+exact-kept n old new r i same was = elim was as (λ _. IsExactAt n new r i) [ inl none ↦ inl none | inr w ↦ inr (w.0, w.1, same w.0 w.1 w.2, w.3, w.4) ]
 
 -- all that a call leaves behind
 pub record Leaves (old new : List Group) (m : FinMap nat_cmp ℕ) : Type 0 where
@@ -84,10 +117,7 @@ module _ (groups : List Group) (g : IsGroups groups) (first at step hash place :
   new-len = length-set mid first (raised (group_at mid first) step) ∙ mid-len
 
   new-entry : (q : ℕ) → entry_at new q ≡ entry_at mid q
-  new-entry q = elim (group-cases mid first (raised (group_at mid first) step) (q / 7) (omega (arith, mid-len))) as (λ _. entry_at new q ≡ entry_at mid q) [
-    | inl c ↦ ap (λ x. entry_in x (q % 7)) c.1 ∙ record-reach (group_at mid first) (max (group_at mid first).reach step) (q % 7) ∙ ap (λ i. entry_in (group_at mid i) (q % 7)) (sym c.0)
-    | inr c ↦ ap (λ x. entry_in x (q % 7)) c.1
-  ]
+  new-entry = reach-entry mid first (max (group_at mid first).reach step) (omega (arith, mid-len))
 
   free : entry_at groups (7 * at + (group_at groups at).count) ≡ None
   free = entry-at_lane groups at (group_at groups at).count room ∙ entry-free (group_at groups at) (group_at groups at).count (omega arith)
@@ -102,44 +132,31 @@ module _ (groups : List Group) (g : IsGroups groups) (first at step hash place :
   others : (q : ℕ) → q ≢ 7 * at + (group_at groups at).count → entry_at new q ≡ entry_at groups q
   others q ne =
       new-entry q
-      ∙ elim (group-cases groups at (with_entry (group_at groups at) hash place) (q / 7) at_in) as (λ _. entry_at mid q ≡ entry_at groups q) [
-        | inl c ↦
-            let away : q % 7 ≢ (group_at groups at).count = (λ s. let c0 = c.0 in ne (omega arith)) in
-            ap (λ x. entry_in x (q % 7)) c.1 ∙ with-other (group_at groups at) (lanes-of groups g at) hash place room (q % 7) away ∙ ap (λ i. entry_in (group_at groups i) (q % 7)) (sym c.0)
-        | inr c ↦ ap (λ x. entry_in x (q % 7)) c.1
-      ]
+      ∙ group-keeps (λ x. entry_in x (q % 7)) groups at (with_entry (group_at groups at) hash place) at_in (q / 7)
+      (λ s. with-other (group_at groups at) (lanes-of groups g at) hash place room (q % 7) (λ t. ne (omega arith)))
 
   mid-reach : (i : ℕ) → (group_at mid i).reach ≡ (group_at groups i).reach
-  mid-reach i = elim (group-cases groups at (with_entry (group_at groups at) hash place) i at_in) as (λ _. (group_at mid i).reach ≡ (group_at groups i).reach) [
-    | inl c ↦ ap (λ x. x.reach) c.1 ∙ ap (λ j. (group_at groups j).reach) (sym c.0)
-    | inr c ↦ ap (λ x. x.reach) c.1
-  ]
+  mid-reach i = group-keeps (λ x. x.reach) groups at (with_entry (group_at groups at) hash place) at_in i (λ _. refl)
 
   first-reach : (group_at new first).reach ≡ max (group_at groups first).reach step
   first-reach = ap (λ x. x.reach) (group-set mid first (raised (group_at mid first) step) (omega (arith, mid-len))) ∙ ap (λ r. max r step) (mid-reach first)
 
+  other-reach : (i : ℕ) → i ≢ first → (group_at new i).reach ≡ (group_at groups i).reach
+  other-reach i ne = ap (λ x. x.reach) (group-past_set mid first i (raised (group_at mid first) step) ne) ∙ mid-reach i
+
   more-reach : (i : ℕ) → (group_at groups i).reach ≤ (group_at new i).reach
-  more-reach i = elim (group-cases mid first (raised (group_at mid first) step) i (omega (arith, mid-len))) as (λ _. (group_at groups i).reach ≤ (group_at new i).reach) [
-    | inl c ↦
-        let e : (group_at new i).reach ≡ max (group_at mid first).reach step = ap (λ x. x.reach) c.1 in
-        let f : (group_at mid first).reach ≡ (group_at groups i).reach = mid-reach first ∙ ap (λ j. (group_at groups j).reach) (sym c.0) in
-        omega arith
-    | inr c ↦ let e : (group_at new i).reach ≡ (group_at mid i).reach = ap (λ x. x.reach) c.1 in omega (arith, mid-reach i)
+  more-reach i = elim (cases_eq i first) as (λ _. (group_at groups i).reach ≤ (group_at new i).reach) [
+    | inl s ↦ subst (λ j. (group_at groups j).reach ≤ (group_at new j).reach) (sym s) (omega (arith, first-reach))
+    | inr ne ↦ omega (arith, other-reach i ne)
   ]
 
   mid-lanes : (i : ℕ) → HasLanes (group_at mid i)
-  mid-lanes i = elim (group-cases groups at (with_entry (group_at groups at) hash place) i at_in) as (λ _. HasLanes (group_at mid i)) [
-    | inl c ↦ subst HasLanes (sym c.1) (with-lanes (group_at groups at) (lanes-of groups g at) hash place room)
-    | inr c ↦ subst HasLanes (sym c.1) (lanes-of groups g i)
-  ]
+  mid-lanes = group-all HasLanes groups at (with_entry (group_at groups at) hash place) at_in (with-lanes (group_at groups at) (lanes-of groups g at) hash place room) (lanes-of groups g)
 
   new-shaped : (i : ℕ) → IsShaped (length groups) (group_at new i)
-  new-shaped i = elim (group-cases mid first (raised (group_at mid first) step) i (omega (arith, mid-len))) as (λ _. IsShaped (length groups) (group_at new i)) [
-    | inl c ↦
-        let m = mid-lanes first in
-        subst (IsShaped (length groups)) (sym c.1) (record { lanes = record { hashes = m.hashes; places = m.places; count = m.count }; reach = λ p. omega (arith, mid-reach first, (g.shaped first).reach p) })
-    | inr c ↦ subst (IsShaped (length groups)) (sym c.1) (record { lanes = mid-lanes i; reach = λ p. omega (arith, mid-reach i, (g.shaped i).reach p) })
-  ]
+  new-shaped = group-all (IsShaped (length groups)) mid first (raised (group_at mid first) step) (omega (arith, mid-len))
+      (reach-shaped (length groups) (max (group_at mid first).reach step) (group_at mid first) (mid-lanes first) (λ p. omega (arith, mid-reach first, (g.shaped first).reach p)))
+      (λ i. record { lanes = mid-lanes i; reach = λ p. omega (arith, mid-reach i, (g.shaped i).reach p) })
 
   new-reached : IsReached (length groups) (entry_at new) (λ i. (group_at new i).reach)
   new-reached = record {
@@ -162,20 +179,11 @@ module _ (groups : List Group) (g : IsGroups groups) (first at step hash place :
   pub pushed-leaves : Leaves groups new (insert (entries_of groups) place hash)
   unfolding entries_of
   pushed-leaves = leaves groups new (insert (entries_of groups) place hash) new-len
-      (becomes-insert_entry (entry_at groups) (entry_at new) (7 * length groups) g.apart (7 * at + (group_at groups at).count) place hash (omega arith) free here others (λ q e h. (inside-of groups g q e h).1) fresh)
+      (becomes-inserted (entry_at groups) (entry_at new) (7 * length groups) g.apart (7 * at + (group_at groups at).count) place hash (omega arith) (λ q e h. (inside-of groups g q e h).1) free here others fresh)
       new-shaped new-reached g.bounded
 
-  other-reach : (i : ℕ) → i ≢ first → (group_at new i).reach ≡ (group_at groups i).reach
-  other-reach i ne = ap (λ x. x.reach) (group-past_set mid first i (raised (group_at mid first) step) ne) ∙ mid-reach i
-
-  -- what was that far behind its home is so still
   persists : (r i : ℕ) → IsExactAt (length groups) (entry_at groups) r i → IsExactAt (length groups) (entry_at new) r i
-  persists r i was = elim was as (λ _. IsExactAt (length groups) (entry_at new) r i) [
-    | inl none ↦ inl none
-    | inr w ↦
-        let away : w.0 ≢ 7 * at + (group_at groups at).count = (λ s. let bad : None ≡ Some w.1 = sym free ∙ ap (entry_at groups) (sym s) ∙ w.2 in absurd cc) in
-        inr (w.0, w.1, others w.0 away ∙ w.2, w.3, w.4)
-  ]
+  persists r i = exact-kept (length groups) (entry_at groups) (entry_at new) r i (λ q e there. others q (λ s. let none = free in cc) ∙ there)
 
   first-exact : IsExactAt (length groups) (entry_at groups) (group_at groups first).reach first → IsExactAt (length groups) (entry_at new) (group_at new first).reach first
   first-exact was = elim (cases_lt (group_at groups first).reach step) as (λ _. IsExactAt (length groups) (entry_at new) (group_at new first).reach first) [
@@ -224,31 +232,19 @@ module _ (groups : List Group) (g : IsGroups groups) (at lane p h : ℕ) (at_in 
       ∙ sym (entry-at_lane groups at ((group_at groups at).count - 1) last-in)
 
   kept : (q : ℕ) → q ≢ 7 * at + lane → q ≢ 7 * at + ((group_at groups at).count - 1) → entry_at left q ≡ entry_at groups q
-  kept q ne nl = elim (group-cases groups at (without_lane (group_at groups at) lane) (q / 7) at_in) as (λ _. entry_at left q ≡ entry_at groups q) [
-    | inl c ↦
-        let c0 = c.0 in
-        let a : q % 7 ≢ lane = (λ s. ne (omega arith)) in
-        let b : q % 7 ≢ (group_at groups at).count - 1 = (λ s. nl (omega arith)) in
-        ap (λ x. entry_in x (q % 7)) c.1 ∙ without-other (group_at groups at) (lanes-of groups g at) lane lane-below (q % 7) a b ∙ ap (λ i. entry_in (group_at groups i) (q % 7)) (sym c.0)
-    | inr c ↦ ap (λ x. entry_in x (q % 7)) c.1
-  ]
+  kept q ne nl = group-keeps (λ x. entry_in x (q % 7)) groups at (without_lane (group_at groups at) lane) at_in (q / 7)
+      (λ s. without-other (group_at groups at) (lanes-of groups g at) lane lane-below (q % 7) (λ t. ne (omega arith)) (λ t. nl (omega arith)))
 
   left-reach : (i : ℕ) → (group_at left i).reach ≡ (group_at groups i).reach
-  left-reach i = elim (group-cases groups at (without_lane (group_at groups at) lane) i at_in) as (λ _. (group_at left i).reach ≡ (group_at groups i).reach) [
-    | inl c ↦ ap (λ x. x.reach) c.1 ∙ ap (λ j. (group_at groups j).reach) (sym c.0)
-    | inr c ↦ ap (λ x. x.reach) c.1
-  ]
+  left-reach i = group-keeps (λ x. x.reach) groups at (without_lane (group_at groups at) lane) at_in i (λ _. refl)
 
   left-shaped : (i : ℕ) → IsShaped (length groups) (group_at left i)
-  left-shaped i = elim (group-cases groups at (without_lane (group_at groups at) lane) i at_in) as (λ _. IsShaped (length groups) (group_at left i)) [
-    | inl c ↦ subst (IsShaped (length groups)) (sym c.1) (record { lanes = without-lanes (group_at groups at) (lanes-of groups g at) lane lane-below; reach = λ p. (g.shaped at).reach p })
-    | inr c ↦ subst (IsShaped (length groups)) (sym c.1) (g.shaped i)
-  ]
+  left-shaped = group-all (IsShaped (length groups)) groups at (without_lane (group_at groups at) lane) at_in (record { lanes = without-lanes (group_at groups at) (lanes-of groups g at) lane lane-below; reach = λ p. (g.shaped at).reach p }) g.shaped
 
   -- the place in a lane was in a lane of the same group
   came : (q : ℕ) (e : ℕ × ℕ) → entry_at left q ≡ Some e → (o : ℕ) × ((entry_at groups o ≡ Some e) × (o / 7 ≡ q / 7))
   came q e qe = elim (cases_eq q (7 * at + ((group_at groups at).count - 1))) as (λ _. (o : ℕ) × ((entry_at groups o ≡ Some e) × (o / 7 ≡ q / 7))) [
-    | inl s ↦ let bad : None ≡ Some e = sym gone ∙ ap (entry_at left) (sym s) ∙ qe in absurd cc
+    | inl s ↦ let none = gone in cc
     | inr nl ↦ elim (cases_eq q (7 * at + lane)) as (λ _. (o : ℕ) × ((entry_at groups o ≡ Some e) × (o / 7 ≡ q / 7))) [
       | inl s ↦ (7 * at + ((group_at groups at).count - 1), (sym (moved (λ t. nl (s ∙ t))) ∙ ap (entry_at left) (sym s) ∙ qe, lane-group at ((group_at groups at).count - 1) last-in ∙ sym (lane-group at lane lane_in) ∙ ap (λ x. x / 7) (sym s)))
       | inr ne ↦ (q, (sym (kept q ne nl) ∙ qe, refl))
@@ -268,7 +264,7 @@ module _ (groups : List Group) (g : IsGroups groups) (at lane p h : ℕ) (at_in 
   pub removed-leaves : Leaves groups left (remove (entries_of groups) p)
   unfolding entries_of
   removed-leaves = leaves groups left (remove (entries_of groups) p) left-len
-      (becomes-removed (entry_at groups) (entry_at left) (7 * length groups) g.apart (7 * at + lane) p h (7 * at + ((group_at groups at).count - 1)) (omega arith) there gone moved kept (λ q e x. (inside-of groups g q e x).1))
+      (becomes-removed (entry_at groups) (entry_at left) (7 * length groups) g.apart (7 * at + lane) p h (omega arith) (λ q e x. (inside-of groups g q e x).1) (7 * at + ((group_at groups at).count - 1)) there gone moved kept)
       left-shaped left-reached g.bounded
 
   -- a reach stays exact if the place that leaves has another home, or was not the farthest
@@ -301,33 +297,26 @@ module _ (groups : List Group) (g : IsGroups groups) (first r : ℕ) (first_in :
   lowered-len = length-set groups first (record (group_at groups first) { reach = r })
 
   lowered-entry : (q : ℕ) → entry_at lowered q ≡ entry_at groups q
-  lowered-entry q = elim (group-cases groups first (record (group_at groups first) { reach = r }) (q / 7) first_in) as (λ _. entry_at lowered q ≡ entry_at groups q) [
-    | inl c ↦ ap (λ x. entry_in x (q % 7)) c.1 ∙ record-reach (group_at groups first) r (q % 7) ∙ ap (λ i. entry_in (group_at groups i) (q % 7)) (sym c.0)
-    | inr c ↦ ap (λ x. entry_in x (q % 7)) c.1
-  ]
+  lowered-entry = reach-entry groups first r first_in
+
+  first-lowered : (group_at lowered first).reach ≡ r
+  first-lowered = ap (λ x. x.reach) (group-set groups first (record (group_at groups first) { reach = r }) first_in)
+
+  other-lowered : (i : ℕ) → i ≢ first → (group_at lowered i).reach ≡ (group_at groups i).reach
+  other-lowered i ne = ap (λ x. x.reach) (group-past_set groups first i (record (group_at groups first) { reach = r }) ne)
 
   lowered-shaped : (i : ℕ) → IsShaped (length groups) (group_at lowered i)
-  lowered-shaped i = elim (group-cases groups first (record (group_at groups first) { reach = r }) i first_in) as (λ _. IsShaped (length groups) (group_at lowered i)) [
-    | inl c ↦
-        let m = lanes-of groups g first in
-        subst (IsShaped (length groups)) (sym c.1) (record { lanes = record { hashes = m.hashes; places = m.places; count = m.count }; reach = λ p. omega (arith, (g.shaped first).reach p) })
-    | inr c ↦ subst (IsShaped (length groups)) (sym c.1) (g.shaped i)
-  ]
+  lowered-shaped = group-all (IsShaped (length groups)) groups first (record (group_at groups first) { reach = r }) first_in
+      (reach-shaped (length groups) r (group_at groups first) (lanes-of groups g first) (λ p. omega (arith, (g.shaped first).reach p)))
+      g.shaped
 
   lowered-reached : IsReached (length groups) (entry_at lowered) (λ i. (group_at lowered i).reach)
   lowered-reached = record {
     within = λ q e qe.
         let was : entry_at groups q ≡ Some e = sym (lowered-entry q) ∙ qe in
-        elim (group-cases groups first (record (group_at groups first) { reach = r }) (home (length groups) e.1) first_in) as (λ _. distance (length groups) (home (length groups) e.1) (q / 7) ≤ (group_at lowered (home (length groups) e.1)).reach) [
-          | inl c ↦
-              let now : (group_at lowered (home (length groups) e.1)).reach ≡ r = ap (λ x. x.reach) c.1 in
-              let near = enough q e was c.0 in
-              let same : distance (length groups) (home (length groups) e.1) (q / 7) ≡ distance (length groups) first (q / 7) = ap (λ f. distance (length groups) f (q / 7)) c.0 in
-              omega arith
-          | inr c ↦
-              let now : (group_at lowered (home (length groups) e.1)).reach ≡ (group_at groups (home (length groups) e.1)).reach = ap (λ x. x.reach) c.1 in
-              let near = g.reached.within q e was in
-              omega arith
+        elim (cases_eq (home (length groups) e.1) first) as (λ _. distance (length groups) (home (length groups) e.1) (q / 7) ≤ (group_at lowered (home (length groups) e.1)).reach) [
+          | inl s ↦ subst (λ f. distance (length groups) f (q / 7) ≤ (group_at lowered f).reach) (sym s) (omega (arith, enough q e was s, first-lowered))
+          | inr ne ↦ omega (arith, g.reached.within q e was, other-lowered (home (length groups) e.1) ne)
         ];
   }
 
@@ -337,26 +326,15 @@ module _ (groups : List Group) (g : IsGroups groups) (first r : ℕ) (first_in :
       (becomes-same (entry_at groups) (entry_at lowered) (7 * length groups) g.apart lowered-entry)
       lowered-shaped lowered-reached g.bounded
 
-  first-lowered : (group_at lowered first).reach ≡ r
-  first-lowered = ap (λ x. x.reach) (group-set groups first (record (group_at groups first) { reach = r }) first_in)
-
   -- the reach is exact if it is 0, or a place that far behind has its home in the group
   pub lowered-tight : ((r ≡ 0) ⊎ ((lane : ℕ) × (lane < (group_at groups (probe (length groups) first r)).count) × (home (length groups) (lane_hash (group_at groups (probe (length groups) first r)) lane) ≡ first))) → AreExactBut groups first → IsTight lowered
   lowered-tight found others = record {
     exact = λ i. subst (λ n. IsExactAt n (entry_at lowered) (group_at lowered i).reach i) (sym lowered-len) (elim (cases_eq i first) as (λ _. IsExactAt (length groups) (entry_at lowered) (group_at lowered i).reach i) [
       | inl s ↦ subst (λ j. IsExactAt (length groups) (entry_at lowered) (group_at lowered j).reach j) (sym s) (subst (λ x. IsExactAt (length groups) (entry_at lowered) x first) (sym first-lowered) here)
-      | inr ne ↦
-          let same : (group_at groups i).reach ≡ (group_at lowered i).reach = ap (λ x. x.reach) (sym (group-past_set groups first i (record (group_at groups first) { reach = r }) ne)) in
-          subst (λ x. IsExactAt (length groups) (entry_at lowered) x i) same (persists i (others i ne))
+      | inr ne ↦ subst (λ x. IsExactAt (length groups) (entry_at lowered) x i) (sym (other-lowered i ne)) (exact-kept (length groups) (entry_at groups) (entry_at lowered) (group_at groups i).reach i (λ q e there. lowered-entry q ∙ there) (others i ne))
     ]);
   }
     where
-      persists : (i : ℕ) → IsExactAt (length groups) (entry_at groups) (group_at groups i).reach i → IsExactAt (length groups) (entry_at lowered) (group_at groups i).reach i
-      persists i was = elim was as (λ _. IsExactAt (length groups) (entry_at lowered) (group_at groups i).reach i) [
-        | inl none ↦ inl none
-        | inr w ↦ inr (w.0, w.1, lowered-entry w.0 ∙ w.2, w.3, w.4)
-      ]
-
       here : IsExactAt (length groups) (entry_at lowered) r first
       here = elim found as (λ _. IsExactAt (length groups) (entry_at lowered) r first) [
         | inl none ↦ inl none

@@ -1,9 +1,10 @@
 -- What is in the lanes, and how a write to one group changes it.
-use Rattle.std.proofs.Common.{◌≡◌, ◌≢◌, ℕ, ◌+◌, ◌-◌, ◌*◌, ◌/◌, ◌%◌, ◌<◌, ◌≤◌, nat_lt, Some, None, List, length, inl, inr, sym, ap, ◌∙◌, arith}
-use Rattle.std.proofs.lemmas.Bool.{cases_lt, cond-true, cond-false, lt-ltb, le-ltb}
-use Rattle.std.proofs.lemmas.List.{get_or-set_same, get_or-set_other, get_or_past, length-set}
-use Rattle.std.specs.Prelude.{slice_set}
-use Rattle.std.proofs.lemmas.Option.{same_Some}
+use Rattle.std.proofs.Common.{◌≡◌, ◌≢◌, ℕ, ◌+◌, ◌-◌, ◌*◌, ◌/◌, ◌%◌, ◌<◌, ◌≤◌, Some, None, List, [], length, inl, inr, sym, ap, ◌∙◌, arith}
+use Rattle.std.proofs.lemmas.Bool.{cases_lt}
+use Rattle.std.proofs.lemmas.Bool.Decides.{nat_tests}
+use Rattle.std.proofs.lemmas.List.{get_or-set_same, get_or-set_other, get_or_past, get_or_default, length-set}
+use Rattle.std.specs.Prelude.{slice_index_or, slice_set}
+use Rattle.std.proofs.lemmas.Option.{some_pair_parts}
 use Rattle.moka_index.specs.declared.group.Group.{Group}
 use Rattle.moka_index.specs.Group.{empty_group, lane_hash, lane_place, entry_in, with_entry, without_lane, HasLanes}
 use Rattle.moka_index.specs.Groups.{entry_at, group_at}
@@ -12,40 +13,35 @@ use Rattle.moka_index.specs.Groups.{entry_at, group_at}
 
 pub entry-here : (g : Group) (lane : ℕ) → lane < g.count → entry_in g lane ≡ Some (lane_place g lane, lane_hash g lane)
 unfolding entry_in
-entry-here g lane l = cond-true (nat_lt lane g.count) (Some (lane_place g lane, lane_hash g lane)) None (lt-ltb lane g.count l)
+entry-here g lane l = grind (arith, nat_tests)
 
 pub entry-free : (g : Group) (lane : ℕ) → g.count ≤ lane → entry_in g lane ≡ None
 unfolding entry_in
-entry-free g lane l = cond-false (nat_lt lane g.count) (Some (lane_place g lane, lane_hash g lane)) None (le-ltb lane g.count l)
+entry-free g lane l = grind (arith, nat_tests)
 
 pub entry-below : (g : Group) (lane : ℕ) (e : ℕ × ℕ) → entry_in g lane ≡ Some e → lane < g.count
-entry-below g lane e h = elim (cases_lt lane g.count) as (λ _. lane < g.count) [
-  | inl l ↦ l
-  | inr l ↦ let none = entry-free g lane l in cc
-]
+unfolding entry_in
+entry-below g lane e h = grind (arith, nat_tests)
 
 pub entry-is : (g : Group) (lane p h : ℕ) → entry_in g lane ≡ Some (p, h) → (lane < g.count) × ((lane_place g lane ≡ p) × (lane_hash g lane ≡ h))
 entry-is g lane p h e =
     let l = entry-below g lane (p, h) e in
-    let s : Some (lane_place g lane, lane_hash g lane) ≡ Some (p, h) = sym (entry-here g lane l) ∙ e in
-    let t = same_Some (lane_place g lane, lane_hash g lane) (p, h) s in
-    (l, (ap (λ (e : ℕ × ℕ). e.0) t, ap (λ (e : ℕ × ℕ). e.1) t))
+    (l, some_pair_parts _ _ _ _ (sym (entry-here g lane l) ∙ e))
 
 module _ (g : Group) (lanes : HasLanes g) (hash place : ℕ) (room : g.count < 7) where
   pub with-here : entry_in (with_entry g hash place) g.count ≡ Some (place, hash)
+  unfolding entry_in
   with-here =
-      let a : lane_place (with_entry g hash place) g.count ≡ place = get_or-set_same g.places g.count place 0 (omega (arith, lanes.places)) in
-      let b : lane_hash (with_entry g hash place) g.count ≡ hash = get_or-set_same g.hashes g.count hash 0 (omega (arith, lanes.hashes)) in
-      entry-here (with_entry g hash place) g.count (omega arith) ∙ (λ i. Some (a i, b i))
+      let a = get_or-set_same g.places g.count place 0 (omega (arith, lanes.places)) in
+      let b = get_or-set_same g.hashes g.count hash 0 (omega (arith, lanes.hashes)) in
+      grind (arith, nat_tests)
 
   pub with-other : (lane : ℕ) → lane ≢ g.count → entry_in (with_entry g hash place) lane ≡ entry_in g lane
-  with-other lane ne = elim (cases_lt lane g.count) as (λ _. entry_in (with_entry g hash place) lane ≡ entry_in g lane) [
-    | inl l ↦
-        let a : lane_place (with_entry g hash place) lane ≡ lane_place g lane = get_or-set_other g.places g.count lane place 0 ne in
-        let b : lane_hash (with_entry g hash place) lane ≡ lane_hash g lane = get_or-set_other g.hashes g.count lane hash 0 ne in
-        entry-here (with_entry g hash place) lane (omega arith) ∙ (λ i. Some (a i, b i)) ∙ sym (entry-here g lane l)
-    | inr l ↦ entry-free (with_entry g hash place) lane (omega arith) ∙ sym (entry-free g lane l)
-  ]
+  unfolding entry_in
+  with-other lane ne =
+      let a = get_or-set_other g.places g.count lane place 0 ne in
+      let b = get_or-set_other g.hashes g.count lane hash 0 ne in
+      grind (arith, nat_tests)
 
   pub with-lanes : HasLanes (with_entry g hash place)
   with-lanes = record { hashes = length-set g.hashes g.count hash ∙ lanes.hashes; places = length-set g.places g.count place ∙ lanes.places; count = omega arith }
@@ -55,19 +51,18 @@ module _ (g : Group) (lanes : HasLanes g) (lane : ℕ) (within : lane < g.count)
   without-last = entry-free (without_lane g lane) (g.count - 1) (omega arith)
 
   pub without-here : lane ≢ g.count - 1 → entry_in (without_lane g lane) lane ≡ entry_in g (g.count - 1)
+  unfolding entry_in
   without-here ne =
-      let a : lane_place (without_lane g lane) lane ≡ lane_place g (g.count - 1) = get_or-set_same g.places lane (lane_place g (g.count - 1)) 0 (omega (arith, lanes.places, lanes.count)) in
-      let b : lane_hash (without_lane g lane) lane ≡ lane_hash g (g.count - 1) = get_or-set_same g.hashes lane (lane_hash g (g.count - 1)) 0 (omega (arith, lanes.hashes, lanes.count)) in
-      entry-here (without_lane g lane) lane (omega arith) ∙ (λ i. Some (a i, b i)) ∙ sym (entry-here g (g.count - 1) (omega arith))
+      let a = get_or-set_same g.places lane (lane_place g (g.count - 1)) 0 (omega (arith, lanes.places, lanes.count)) in
+      let b = get_or-set_same g.hashes lane (lane_hash g (g.count - 1)) 0 (omega (arith, lanes.hashes, lanes.count)) in
+      grind (arith, nat_tests)
 
   pub without-other : (other : ℕ) → other ≢ lane → other ≢ g.count - 1 → entry_in (without_lane g lane) other ≡ entry_in g other
-  without-other other ne nl = elim (cases_lt other (g.count - 1)) as (λ _. entry_in (without_lane g lane) other ≡ entry_in g other) [
-    | inl l ↦
-        let a : lane_place (without_lane g lane) other ≡ lane_place g other = get_or-set_other g.places lane other (lane_place g (g.count - 1)) 0 ne in
-        let b : lane_hash (without_lane g lane) other ≡ lane_hash g other = get_or-set_other g.hashes lane other (lane_hash g (g.count - 1)) 0 ne in
-        entry-here (without_lane g lane) other l ∙ (λ i. Some (a i, b i)) ∙ sym (entry-here g other (omega arith))
-    | inr l ↦ entry-free (without_lane g lane) other l ∙ sym (entry-free g other (omega arith))
-  ]
+  unfolding entry_in
+  without-other other ne nl =
+      let a = get_or-set_other g.places lane other (lane_place g (g.count - 1)) 0 ne in
+      let b = get_or-set_other g.hashes lane other (lane_hash g (g.count - 1)) 0 ne in
+      grind (arith, nat_tests)
 
   pub without-lanes : HasLanes (without_lane g lane)
   without-lanes = record { hashes = length-set g.hashes lane (lane_hash g (g.count - 1)) ∙ lanes.hashes; places = length-set g.places lane (lane_place g (g.count - 1)) ∙ lanes.places; count = omega (arith, lanes.count) }
@@ -79,6 +74,14 @@ group-set groups at g l = get_or-set_same groups at g empty_group l
 
 pub group-past_set : (groups : List Group) (at i : ℕ) (g : Group) → i ≢ at → group_at (slice_set groups at g) i ≡ group_at groups i
 group-past_set groups at i g ne = get_or-set_other groups at i g empty_group ne
+
+-- what a read past the last group gives
+abbrev pub blank : Group
+blank = record { hashes = []; count = 0; places = []; reach = 0 }
+
+-- a group that is read with another default
+pub group-read : (groups : List Group) (i : ℕ) (d : Group) → i < length groups → slice_index_or groups i d ≡ group_at groups i
+group-read groups i d l = get_or_default groups i d empty_group l
 
 pub entry-empty : (lane : ℕ) → entry_in empty_group lane ≡ None
 entry-empty lane = entry-free empty_group lane (omega arith)

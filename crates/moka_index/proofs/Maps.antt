@@ -1,88 +1,111 @@
--- The map that the lanes make, and how it follows a change of one lane.
+-- The map that entries at places make, and how it follows a change at one place.
 use Rattle.std.proofs.Common.{◌≡◌, ◌≢◌, ℕ, zero, suc, ◌+◌, ◌<◌, ◌≤◌, Option, Some, None, ◌⊎◌, inl, inr, refl, sym, ap, subst, ◌∙◌, arith}
 use Rattle.std.proofs.lemmas.Bool.{cases_eq}
 use Rattle.std.specs.FinMap.{FinMap, get, insert, remove, empty, len, get-empty, same_map, nat_cmp-IsAntisymmetric, len-empty}
 use Rattle.std.specs.Ordering.{nat_cmp}
 use Rattle.std.specs.Cmp.{nat_cmp_total}
 pub use Rattle.moka_links.proofs.FinMaps.{option-cases, get-inserted, get-past_insert, get-removed, get-past_remove, len-inserted, len-kept, len-removed, len-some}
-use Rattle.moka_index.specs.Groups.{put_entry, upto, IsApart}
+use Rattle.moka_index.specs.EntryMap.{put_entry, upto, IsApart}
 
 pub option-same : {X : Type 0} (a b : Option X) → ((x : X) → a ≡ Some x → b ≡ Some x) → ((x : X) → b ≡ Some x → a ≡ Some x) → a ≡ b
 option-same None None p q = refl
 option-same None (Some y) p q = q y refl
 option-same (Some x) b p q = sym (p x refl)
 
--- a place and its hash are in one of the first lanes
-pub record Holds (at : ℕ → Option (ℕ × ℕ)) (k p h : ℕ) : Type 0 where
-  pub lane : ℕ
-  pub within : lane < k
-  pub at_is : at lane ≡ Some (p, h)
+-- maps with the same values are one
+pub same-map : {X : Type 0} (m n : FinMap nat_cmp X) → ((k : ℕ) (x : X) → get m k ≡ Some x → get n k ≡ Some x) → ((k : ℕ) (x : X) → get n k ≡ Some x → get m k ≡ Some x) → m ≡ n
+same-map m n there back = same_map nat_cmp_total nat_cmp-IsAntisymmetric m n (λ k. option-same (get m k) (get n k) (there k) (back k))
 
-abbrev pub Map : Type 0
-Map = FinMap nat_cmp ℕ
+-- what stands at each place has a key of its own still, where one place changes and no other place had its key
+module _ {A : Type 0} (key : A → ℕ) (old new : ℕ → Option A) (place n : ℕ) (others : (p : ℕ) → p ≢ place → new p ≡ old p)
+    (same : (p q : ℕ) (a b : A) → old p ≡ Some a → old q ≡ Some b → key a ≡ key b → p ≡ q)
+    (is : (a : A) → new place ≡ Some a → key a ≡ n) (away : (p : ℕ) (a : A) → p ≢ place → old p ≡ Some a → key a ≢ n) where
+  pub still-apart : (p q : ℕ) (a b : A) → new p ≡ Some a → new q ≡ Some b → key a ≡ key b → p ≡ q
+  still-apart p q a b pe qe s = elim (cases_eq p place) as (λ _. p ≡ q) [
+    | inl pi ↦ elim (cases_eq q place) as (λ _. p ≡ q) [
+      | inl qi ↦ pi ∙ sym qi
+      | inr qn ↦ absurd (away q b qn (sym (others q qn) ∙ qe) (sym s ∙ is a (ap new (sym pi) ∙ pe)))
+    ]
+    | inr pn ↦ elim (cases_eq q place) as (λ _. p ≡ q) [
+      | inl qi ↦ absurd (away p a pn (sym (others p pn) ∙ pe) (s ∙ is b (ap new (sym qi) ∙ qe)))
+      | inr qn ↦ same p q a b (sym (others p pn) ∙ pe) (sym (others q qn) ∙ qe) s
+    ]
+  ]
 
-module _ (at : ℕ → Option (ℕ × ℕ)) where
-  found-insert_entry : (k : ℕ) (o : Option (ℕ × ℕ)) (m : Map) (p h : ℕ) → at k ≡ o → ((p h : ℕ) → get m p ≡ Some h → Holds at k p h) → get (put_entry o m) p ≡ Some h → Holds at (suc k) p h
-  found-insert_entry k None m p h e ih g = let w = ih p h g in record { lane = w.lane; within = omega (arith, w.within); at_is = w.at_is }
-  found-insert_entry k (Some x) m p h e ih g = elim (cases_eq p x.0) as (λ _. Holds at (suc k) p h) [
+-- a key has its value at one of the first places
+pub record Holds {X : Type 0} (at : ℕ → Option (ℕ × X)) (k key : ℕ) (x : X) : Type 0 where
+  pub place : ℕ
+  pub within : place < k
+  pub at_is : at place ≡ Some (key, x)
+
+module _ {X : Type 0} (at : ℕ → Option (ℕ × X)) where
+  found-put : (k : ℕ) (o : Option (ℕ × X)) (m : FinMap nat_cmp X) (n : ℕ) (x : X) → at k ≡ o → ((n : ℕ) (x : X) → get m n ≡ Some x → Holds at k n x) → get (put_entry o m) n ≡ Some x → Holds at (suc k) n x
+  found-put k None m n x e ih g = let w = ih n x g in record { place = w.place; within = omega (arith, w.within); at_is = w.at_is }
+  found-put k (Some y) m n x e ih g = elim (cases_eq n y.0) as (λ _. Holds at (suc k) n x) [
     | inl s ↦
-        let t : Some x.1 ≡ Some h = sym (get-inserted m x.0 x.1) ∙ ap (get (insert m x.0 x.1)) (sym s) ∙ g in
-        let u : x.1 ≡ h = cc in
-        record { lane = k; within = omega arith; at_is = e ∙ (λ i. Some (sym s i, u i)) }
-    | inr ne ↦ let w = ih p h (sym (get-past_insert m x.0 x.1 p ne) ∙ g) in record { lane = w.lane; within = omega (arith, w.within); at_is = w.at_is }
+        let t : Some y.1 ≡ Some x = sym (get-inserted m y.0 y.1) ∙ ap (get (insert m y.0 y.1)) (sym s) ∙ g in
+        let u : y.1 ≡ x = cc in
+        record { place = k; within = omega arith; at_is = e ∙ (λ i. Some (sym s i, u i)) }
+    | inr ne ↦ let w = ih n x (sym (get-past_insert m y.0 y.1 n ne) ∙ g) in record { place = w.place; within = omega (arith, w.within); at_is = w.at_is }
   ]
 
-  pub found-upto : (k p h : ℕ) → get (upto at k) p ≡ Some h → Holds at k p h
-  found-upto zero p h g = let none = get-empty {X = ℕ} nat_cmp p in cc
-  found-upto (suc k) p h g = found-insert_entry k (at k) (upto at k) p h refl (found-upto k) g
+  pub found-upto : (k n : ℕ) (x : X) → get (upto at k) n ≡ Some x → Holds at k n x
+  found-upto zero n x g = let none = get-empty {X = X} nat_cmp n in cc
+  found-upto (suc k) n x g = found-put k (at k) (upto at k) n x refl (found-upto k) g
 
-  has-past : (o : Option (ℕ × ℕ)) (m : Map) (p : ℕ) → ((e : ℕ × ℕ) → o ≡ Some e → e.0 ≢ p) → get (put_entry o m) p ≡ get m p
-  has-past None m p h = refl
-  has-past (Some e) m p h = get-past_insert m e.0 e.1 p (λ q. h e refl (sym q))
+  has-past : (o : Option (ℕ × X)) (m : FinMap nat_cmp X) (n : ℕ) → ((e : ℕ × X) → o ≡ Some e → e.0 ≢ n) → get (put_entry o m) n ≡ get m n
+  has-past None m n h = refl
+  has-past (Some e) m n h = get-past_insert m e.0 e.1 n (λ q. h e refl (sym q))
 
-  has-here : (o : Option (ℕ × ℕ)) (m : Map) (p h : ℕ) → o ≡ Some (p, h) → get (put_entry o m) p ≡ Some h
-  has-here o m p h e = subst (λ o. get (put_entry o m) p ≡ Some h) (sym e) (get-inserted m p h)
+  has-here : (o : Option (ℕ × X)) (m : FinMap nat_cmp X) (n : ℕ) (x : X) → o ≡ Some (n, x) → get (put_entry o m) n ≡ Some x
+  has-here o m n x e = subst (λ o. get (put_entry o m) n ≡ Some x) (sym e) (get-inserted m n x)
 
-  pub has-upto : IsApart at → (k p h q : ℕ) → q < k → at q ≡ Some (p, h) → get (upto at k) p ≡ Some h
-  has-upto d zero p h q l e = absurd (omega arith)
-  has-upto d (suc k) p h q l e = elim (cases_eq q k) as (λ _. get (put_entry (at k) (upto at k)) p ≡ Some h) [
-    | inl s ↦ has-here (at k) (upto at k) p h (ap at (sym s) ∙ e)
-    | inr ne ↦ has-past (at k) (upto at k) p (λ x xe s. ne (sym (d.same k q x (p, h) xe e s))) ∙ has-upto d k p h q (omega arith) e
+  pub has-upto : IsApart at → (k n : ℕ) (x : X) (q : ℕ) → q < k → at q ≡ Some (n, x) → get (upto at k) n ≡ Some x
+  has-upto d zero n x q l e = absurd (omega arith)
+  has-upto d (suc k) n x q l e = elim (cases_eq q k) as (λ _. get (put_entry (at k) (upto at k)) n ≡ Some x) [
+    | inl s ↦ has-here (at k) (upto at k) n x (ap at (sym s) ∙ e)
+    | inr ne ↦ has-past (at k) (upto at k) n (λ y ye s. ne (sym (d.same k q y (n, x) ye e s))) ∙ has-upto d k n x q (omega arith) e
   ]
 
-  -- the lanes before its own do not have a place
-  pub upto-fresh : IsApart at → (k q : ℕ) (e : ℕ × ℕ) → k ≤ q → at q ≡ Some e → get (upto at k) e.0 ≡ None
+  -- the places before its own do not have a key
+  pub upto-fresh : IsApart at → (k q : ℕ) (e : ℕ × X) → k ≤ q → at q ≡ Some e → get (upto at k) e.0 ≡ None
   upto-fresh d k q e le ae = elim (option-cases (get (upto at k) e.0)) as (λ _. get (upto at k) e.0 ≡ None) [
     | inl none ↦ none
     | inr x ↦
         let w = found-upto k e.0 x.0 x.1 in
-        let same : w.lane ≡ q = d.same w.lane q (e.0, x.0) e w.at_is ae refl in
+        let same : w.place ≡ q = d.same w.place q (e.0, x.0) e w.at_is ae refl in
         absurd (omega (arith, w.within))
   ]
 
-  len-insert_entry : (k : ℕ) (o : Option (ℕ × ℕ)) (m : Map) → ((e : ℕ × ℕ) → o ≡ Some e → get m e.0 ≡ None) → len m ≤ len (put_entry o m)
-  len-insert_entry k None m f = omega arith
-  len-insert_entry k (Some e) m f = omega (arith, len-inserted m e.0 e.1 (f e refl))
+  -- the map that has just these entries
+  pub upto-is : IsApart at → (k : ℕ) (m : FinMap nat_cmp X) → ((q n : ℕ) (x : X) → q < k → at q ≡ Some (n, x) → get m n ≡ Some x) → ((n : ℕ) (x : X) → get m n ≡ Some x → Holds at k n x) → upto at k ≡ m
+  upto-is d k m has holds = same-map (upto at k) m
+      (λ n x g. let w = found-upto k n x g in has w.place n x w.within w.at_is)
+      (λ n x g. let w = holds n x g in has-upto d k n x w.place w.within w.at_is)
+
+  len-put : (o : Option (ℕ × X)) (m : FinMap nat_cmp X) → ((e : ℕ × X) → o ≡ Some e → get m e.0 ≡ None) → ((o ≡ None) × (len (put_entry o m) ≡ len m)) ⊎ (len (put_entry o m) ≡ len m + 1)
+  len-put None m fresh = inl (refl, refl)
+  len-put (Some e) m fresh = inr (len-inserted m e.0 e.1 (fresh e refl))
+
+  len-next : IsApart at → (k : ℕ) → ((at k ≡ None) × (len (upto at (suc k)) ≡ len (upto at k))) ⊎ (len (upto at (suc k)) ≡ len (upto at k) + 1)
+  len-next d k = len-put (at k) (upto at k) (λ e ae. upto-fresh d k k e (omega arith) ae)
 
   pub len-mono : IsApart at → (j k : ℕ) → j ≤ k → len (upto at j) ≤ len (upto at k)
   len-mono d j zero le = let same : j ≡ zero = omega arith in subst (λ x. len (upto at x) ≤ len (upto at zero)) (sym same) (omega arith)
   len-mono d j (suc k) le = elim (cases_eq j (suc k)) as (λ _. len (upto at j) ≤ len (upto at (suc k))) [
     | inl same ↦ subst (λ x. len (upto at x) ≤ len (upto at (suc k))) (sym same) (omega arith)
-    | inr ne ↦ omega (arith, len-mono d j k (omega arith), len-insert_entry k (at k) (upto at k) (λ e ae. upto-fresh d k k e (omega arith) ae))
+    | inr ne ↦ omega (arith, len-mono d j k (omega arith), len-next d k)
   ]
 
-  len-put_some : (o : Option (ℕ × ℕ)) (m : Map) → ((e : ℕ × ℕ) → o ≡ Some e → get m e.0 ≡ None) → (o ≡ None → ⊥) → len (put_entry o m) ≡ len m + 1
-  len-put_some None m f some = absurd (some refl)
-  len-put_some (Some e) m f some = len-inserted m e.0 e.1 (f e refl)
-
-  -- where no lane is free, there are as many places as lanes
+  -- where no place is free, there are as many keys as places
   pub len-full : IsApart at → (k : ℕ) → ((q : ℕ) → q < k → at q ≡ None → ⊥) → len (upto at k) ≡ k
-  len-full d zero full = len-empty nat_cmp ℕ
-  len-full d (suc k) full =
-      let more = len-put_some (at k) (upto at k) (λ e ae. upto-fresh d k k e (omega arith) ae) (full k (omega arith)) in
-      omega (arith, more, len-full d k (λ q l. full q (omega arith)))
+  len-full d zero full = len-empty nat_cmp X
+  len-full d (suc k) full = elim (len-next d k) as (λ _. len (upto at (suc k)) ≡ suc k) [
+    | inl none ↦ absurd (full k (omega arith) none.0)
+    | inr more ↦ omega (arith, len-full d k (λ q l. full q (omega arith)))
+  ]
 
-  -- free lanes add nothing
+  -- free places add nothing
   pub upto-past : (j k : ℕ) → k ≤ j → ((q : ℕ) → k ≤ q → q < j → at q ≡ None) → upto at j ≡ upto at k
   upto-past zero k le none = let same : zero ≡ k = omega arith in ap (upto at) same
   upto-past (suc j) k le none = elim (cases_eq (suc j) k) as (λ _. upto at (suc j) ≡ upto at k) [
@@ -93,81 +116,61 @@ module _ (at : ℕ → Option (ℕ × ℕ)) where
   pub upto-free : (k : ℕ) → ((q : ℕ) → at q ≡ None) → upto at k ≡ empty
   upto-free k none = upto-past k zero (omega arith) (λ q _ _. none q)
 
-pub same-map : (m n : Map) → ((p : ℕ) → get m p ≡ get n p) → m ≡ n
-same-map m n h = same_map nat_cmp_total nat_cmp-IsAntisymmetric m n h
-
--- no place is in two lanes, and the map is this
-pub record Becomes (at : ℕ → Option (ℕ × ℕ)) (n : ℕ) (m : Map) : Type 0 where
+-- no key is at two places, and the map is this
+pub record Becomes {X : Type 0} (at : ℕ → Option (ℕ × X)) (n : ℕ) (m : FinMap nat_cmp X) : Type 0 where
   pub apart : IsApart at
   pub map_is : upto at n ≡ m
 
-module _ (old new : ℕ → Option (ℕ × ℕ)) (n : ℕ) (d : IsApart old) where
-  -- the same places, lane by lane
+module _ {X : Type 0} (old new : ℕ → Option (ℕ × X)) (n : ℕ) (d : IsApart old) where
+  -- the same entries, place by place
   pub becomes-same : ((q : ℕ) → new q ≡ old q) → Becomes new n (upto old n)
   becomes-same same =
       let apart : IsApart new = record { same = λ p q a b pe qe s. d.same p q a b (sym (same p) ∙ pe) (sym (same q) ∙ qe) s } in
       record {
         apart = apart;
-        map_is = same-map (upto new n) (upto old n) (λ p. option-same (get (upto new n) p) (get (upto old n) p)
-            (λ h g. let w = found-upto new n p h g in has-upto old d n p h w.lane w.within (sym (same w.lane) ∙ w.at_is))
-            (λ h g. let w = found-upto old n p h g in has-upto new apart n p h w.lane w.within (same w.lane ∙ w.at_is)));
+        map_is = upto-is new apart n (upto old n)
+            (λ q k x l e. has-upto old d n k x q l (sym (same q) ∙ e))
+            (λ k x g. let w = found-upto old n k x g in record { place = w.place; within = w.within; at_is = same w.place ∙ w.at_is });
       }
 
-  module _ (lane p h : ℕ) where
-    -- a new place comes into a free lane
-    pub becomes-insert_entry : lane < n → old lane ≡ None → new lane ≡ Some (p, h) → ((q : ℕ) → q ≢ lane → new q ≡ old q) → ((q : ℕ) (e : ℕ × ℕ) → old q ≡ Some e → q < n) → get (upto old n) p ≡ None → Becomes new n (insert (upto old n) p h)
-    becomes-insert_entry within free here others inside fresh =
-        let not_there : (q : ℕ) (e : ℕ × ℕ) → old q ≡ Some e → e.0 ≢ p = λ q e oe s.
+  module _ (place key : ℕ) (value : X) (within : place < n) (inside : (q : ℕ) (e : ℕ × X) → old q ≡ Some e → q < n) where
+    -- a new key comes to a free place
+    pub becomes-inserted : old place ≡ None → new place ≡ Some (key, value) → ((q : ℕ) → q ≢ place → new q ≡ old q) → get (upto old n) key ≡ None → Becomes new n (insert (upto old n) key value)
+    becomes-inserted free here others fresh =
+        let absent : (q : ℕ) (e : ℕ × X) → old q ≡ Some e → e.0 ≢ key = λ q e oe s.
         let g : get (upto old n) e.0 ≡ Some e.1 = has-upto old d n e.0 e.1 q (inside q e oe) oe in
         let bad : None ≡ Some e.1 = sym fresh ∙ ap (get (upto old n)) (sym s) ∙ g in cc in
-        let apart : IsApart new = record {
-          same = λ x y a b xe ye s. elim (cases_eq x lane) as (λ _. x ≡ y) [
-            | inl xl ↦ elim (cases_eq y lane) as (λ _. x ≡ y) [
-              | inl yl ↦ xl ∙ sym yl
-              | inr yn ↦
-                  let a_is : Some a ≡ Some (p, h) = sym xe ∙ ap new xl ∙ here in
-                  let same : a ≡ (p, h) = cc in
-                  absurd (not_there y b (sym (others y yn) ∙ ye) (sym s ∙ ap (λ e. e.0) same))
-            ]
-            | inr xn ↦ elim (cases_eq y lane) as (λ _. x ≡ y) [
-              | inl yl ↦
-                  let b_is : Some b ≡ Some (p, h) = sym ye ∙ ap new yl ∙ here in
-                  let same : b ≡ (p, h) = cc in
-                  absurd (not_there x a (sym (others x xn) ∙ xe) (s ∙ ap (λ e. e.0) same))
-              | inr yn ↦ d.same x y a b (sym (others x xn) ∙ xe) (sym (others y yn) ∙ ye) s
-            ]
-          ];
-        } in
+        let own : (e : ℕ × X) → new place ≡ Some e → e.0 ≡ key = λ e there. let is : Some e ≡ Some (key, value) = sym there ∙ here in let same : e ≡ (key, value) = cc in ap (λ e. e.0) same in
+        let apart : IsApart new = record { same = still-apart (λ e. e.0) old new place key others d.same own (λ q e _ oe. absent q e oe) } in
         record {
           apart = apart;
-          map_is = same-map (upto new n) (insert (upto old n) p h) (λ q. option-same (get (upto new n) q) (get (insert (upto old n) p h) q)
-              (λ x g.
-              let w = found-upto new n q x g in
-              elim (cases_eq w.lane lane) as (λ _. get (insert (upto old n) p h) q ≡ Some x) [
-                | inl e ↦
-                    let s : Some (q, x) ≡ Some (p, h) = sym w.at_is ∙ ap new e ∙ here in
-                    let t : ◌≡◌ {A = ℕ × ℕ} (q, x) (p, h) = cc in
-                    ap (get (insert (upto old n) p h)) (ap (λ (e : ℕ × ℕ). e.0) t) ∙ get-inserted (upto old n) p h ∙ ap (λ (e : ℕ × ℕ). Some e.1) (sym t)
-                | inr ne ↦
-                    let o : old w.lane ≡ Some (q, x) = sym (others w.lane ne) ∙ w.at_is in
-                    get-past_insert (upto old n) p h q (not_there w.lane (q, x) o) ∙ has-upto old d n q x w.lane w.within o
+          map_is = upto-is new apart n (insert (upto old n) key value)
+              (λ q k x l e. elim (cases_eq q place) as (λ _. get (insert (upto old n) key value) k ≡ Some x) [
+                | inl s ↦
+                    let is : Some (k, x) ≡ Some (key, value) = sym e ∙ ap new s ∙ here in
+                    let same : ◌≡◌ {A = ℕ × X} (k, x) (key, value) = cc in
+                    ap (get (insert (upto old n) key value)) (ap (λ (e : ℕ × X). e.0) same) ∙ get-inserted (upto old n) key value ∙ ap (λ (e : ℕ × X). Some e.1) (sym same)
+                | inr ne ↦ let o = sym (others q ne) ∙ e in get-past_insert (upto old n) key value k (absent q (k, x) o) ∙ has-upto old d n k x q l o
               ])
-              (λ x g. elim (cases_eq q p) as (λ _. get (upto new n) q ≡ Some x) [
-                | inl e ↦ ap (get (upto new n)) e ∙ has-upto new apart n p h lane within here ∙ sym (get-inserted (upto old n) p h) ∙ ap (get (insert (upto old n) p h)) (sym e) ∙ g
+              (λ k x g. elim (cases_eq k key) as (λ _. Holds new n k x) [
+                | inl s ↦
+                    let is : Some value ≡ Some x = sym (get-inserted (upto old n) key value) ∙ ap (get (insert (upto old n) key value)) (sym s) ∙ g in
+                    let same : value ≡ x = cc in
+                    record { place = place; within = within; at_is = here ∙ (λ i. Some (sym s i, same i)) }
                 | inr ne ↦
-                    let w = found-upto old n q x (sym (get-past_insert (upto old n) p h q ne) ∙ g) in
-                    let away : w.lane ≢ lane = (λ s. let bad : None ≡ Some (q, x) = sym free ∙ ap old (sym s) ∙ w.at_is in cc) in
-                    has-upto new apart n q x w.lane w.within (others w.lane away ∙ w.at_is)
-              ]));
+                    let w = found-upto old n k x (sym (get-past_insert (upto old n) key value k ne) ∙ g) in
+                    let away : w.place ≢ place = (λ s. let bad : None ≡ Some (k, x) = sym free ∙ ap old (sym s) ∙ w.at_is in cc) in
+                    record { place = w.place; within = w.within; at_is = others w.place away ∙ w.at_is }
+              ]);
         }
 
-    -- the place in a lane is removed, and the last one moves into it
-    pub becomes-removed : (last : ℕ) → lane < n → old lane ≡ Some (p, h) → new last ≡ None → (lane ≢ last → new lane ≡ old last) → ((q : ℕ) → q ≢ lane → q ≢ last → new q ≡ old q) → ((q : ℕ) (e : ℕ × ℕ) → old q ≡ Some e → q < n) → Becomes new n (remove (upto old n) p)
-    becomes-removed last within there gone moved others inside =
-        let not_last : (q : ℕ) (e : ℕ × ℕ) → new q ≡ Some e → q ≢ last = λ q e qe s. let bad : None ≡ Some e = sym gone ∙ ap new (sym s) ∙ qe in cc in
-        -- where the place in a lane was before
-        let came : (q : ℕ) (e : ℕ × ℕ) → new q ≡ Some e → ((q ≡ lane) × (old last ≡ Some e)) ⊎ ((q ≢ lane) × (old q ≡ Some e)) = λ q e qe.
-        elim (cases_eq q lane) as (λ _. ((q ≡ lane) × (old last ≡ Some e)) ⊎ ((q ≢ lane) × (old q ≡ Some e))) [
+    -- the key at a place is removed, and the last one moves to it
+    pub becomes-removed : (last : ℕ) → old place ≡ Some (key, value) → new last ≡ None → (place ≢ last → new place ≡ old last) → ((q : ℕ) → q ≢ place → q ≢ last → new q ≡ old q) → Becomes new n (remove (upto old n) key)
+    becomes-removed last there gone moved others =
+        let not_last : (q : ℕ) (e : ℕ × X) → new q ≡ Some e → q ≢ last = λ q e qe s. let bad : None ≡ Some e = sym gone ∙ ap new (sym s) ∙ qe in cc in
+        -- where what stands at a place was before
+        let came : (q : ℕ) (e : ℕ × X) → new q ≡ Some e → ((q ≡ place) × (old last ≡ Some e)) ⊎ ((q ≢ place) × (old q ≡ Some e)) = λ q e qe.
+        elim (cases_eq q place) as (λ _. ((q ≡ place) × (old last ≡ Some e)) ⊎ ((q ≢ place) × (old q ≡ Some e))) [
           | inl s ↦ inl (s, sym (moved (λ t. not_last q e qe (s ∙ t))) ∙ ap new (sym s) ∙ qe)
           | inr ne ↦ inr (ne, sym (others q ne (not_last q e qe)) ∙ qe)
         ] in
@@ -185,21 +188,19 @@ module _ (old new : ℕ → Option (ℕ × ℕ)) (n : ℕ) (d : IsApart old) whe
         } in
         record {
           apart = apart;
-          map_is = same-map (upto new n) (remove (upto old n) p) (λ q. option-same (get (upto new n) q) (get (remove (upto old n) p) q)
-              (λ x g.
-              let w = found-upto new n q x g in
-              elim (came w.lane (q, x) w.at_is) as (λ _. get (remove (upto old n) p) q ≡ Some x) [
-                | inl u ↦ get-past_remove (upto old n) p q (λ s. not_last w.lane (q, x) w.at_is (u.0 ∙ sym (d.same last lane (q, x) (p, h) u.1 there s))) ∙ has-upto old d n q x last (inside last (q, x) u.1) u.1
-                | inr u ↦ get-past_remove (upto old n) p q (λ s. u.0 (d.same w.lane lane (q, x) (p, h) u.1 there s)) ∙ has-upto old d n q x w.lane w.within u.1
+          map_is = upto-is new apart n (remove (upto old n) key)
+              (λ q k x l e. elim (came q (k, x) e) as (λ _. get (remove (upto old n) key) k ≡ Some x) [
+                | inl u ↦ get-past_remove (upto old n) key k (λ s. not_last q (k, x) e (u.0 ∙ sym (d.same last place (k, x) (key, value) u.1 there s))) ∙ has-upto old d n k x last (inside last (k, x) u.1) u.1
+                | inr u ↦ get-past_remove (upto old n) key k (λ s. u.0 (d.same q place (k, x) (key, value) u.1 there s)) ∙ has-upto old d n k x q l u.1
               ])
-              (λ x g. elim (cases_eq q p) as (λ _. get (upto new n) q ≡ Some x) [
-                | inl e ↦ let bad : None ≡ Some x = sym (get-removed (upto old n) p) ∙ ap (get (remove (upto old n) p)) (sym e) ∙ g in cc
+              (λ k x g. elim (cases_eq k key) as (λ _. Holds new n k x) [
+                | inl e ↦ let bad : None ≡ Some x = sym (get-removed (upto old n) key) ∙ ap (get (remove (upto old n) key)) (sym e) ∙ g in cc
                 | inr ne ↦
-                    let w = found-upto old n q x (sym (get-past_remove (upto old n) p q ne) ∙ g) in
-                    let away : w.lane ≢ lane = (λ s. let bad : Some (q, x) ≡ Some (p, h) = sym w.at_is ∙ ap old s ∙ there in let t : ◌≡◌ {A = ℕ × ℕ} (q, x) (p, h) = cc in ne (ap (λ (e : ℕ × ℕ). e.0) t)) in
-                    elim (cases_eq w.lane last) as (λ _. get (upto new n) q ≡ Some x) [
-                      | inl l ↦ has-upto new apart n q x lane within (moved (λ s. away (l ∙ sym s)) ∙ ap old (sym l) ∙ w.at_is)
-                      | inr l ↦ has-upto new apart n q x w.lane w.within (others w.lane away l ∙ w.at_is)
+                    let w = found-upto old n k x (sym (get-past_remove (upto old n) key k ne) ∙ g) in
+                    let away : w.place ≢ place = (λ s. let bad : Some (k, x) ≡ Some (key, value) = sym w.at_is ∙ ap old s ∙ there in let same : ◌≡◌ {A = ℕ × X} (k, x) (key, value) = cc in ne (ap (λ (e : ℕ × X). e.0) same)) in
+                    elim (cases_eq w.place last) as (λ _. Holds new n k x) [
+                      | inl l ↦ record { place = place; within = within; at_is = moved (λ s. away (l ∙ sym s)) ∙ ap old (sym l) ∙ w.at_is }
+                      | inr l ↦ record { place = w.place; within = w.within; at_is = others w.place away l ∙ w.at_is }
                     ]
-              ]));
+              ]);
         }

@@ -1,18 +1,14 @@
 -- All places of some groups are added to others.
 use Rattle.std.proofs.Common.{◌≡◌, ℕ, ◌+◌, ◌*◌, ◌/◌, ◌%◌, ◌^◌, ◌<◌, ◌≤◌, Some, None, List, length, replicate, inl, inr, refl, sym, ap, subst, ◌∙◌, add-one, arith}
 use Rattle.std.proofs.lemmas.Bool.{cases_lt}
-use Rattle.std.proofs.lemmas.List.{get_or-replicate, get_or_past, get_or_default, length-replicate}
-use Rattle.std.specs.Prelude.{slice_index_or}
+use Rattle.std.proofs.lemmas.List.{get_or-replicate, get_or_past, length-replicate}
 use Rattle.std.specs.FinMap.{get, insert, empty, len}
 use Rattle.moka_index.specs.declared.group.Group.{Group}
 use Rattle.moka_index.specs.Group.{empty_group, lane_hash, lane_place, entry_in}
-use Rattle.moka_index.specs.Groups.{entry_at, group_at, put_entry, upto, entries_of, IsShaped, IsGroups, IsTight}
+use Rattle.moka_index.specs.EntryMap.{put_entry, upto}
+use Rattle.moka_index.specs.Groups.{entry_at, group_at, entries_of, IsShaped, IsGroups, IsTight}
 use Rattle.moka_index.proofs.Lanes.{entry-here, entry-free, entry-empty}
 use Rattle.moka_index.proofs.Maps.{upto-free, upto-fresh, len-mono}
-
--- a group that is read with another default
-pub group-read : (groups : List Group) (i : ℕ) (d : Group) → i < length groups → slice_index_or groups i d ≡ group_at groups i
-group-read groups i d l = get_or_default groups i d empty_group l
 
 pub blank-group : (n i : ℕ) → group_at (replicate n empty_group) i ≡ empty_group
 blank-group n i = elim (cases_lt i n) as (λ _. group_at (replicate n empty_group) i ≡ empty_group) [

@@ -1,9 +1,10 @@
 -- How the groups of an index hold its places. No public clause cites this module.
-use Rattle.std.specs.Prelude.{◌≡◌, ◌≢◌, ℕ, zero, suc, ◌+◌, ◌-◌, ◌*◌, ◌/◌, ◌%◌, ◌^◌, ◌<◌, ◌≤◌, cond, nat_lt, nat_le, Option, Some, None, List, length, slice_index_or, slice_set, ◌⊎◌}
+use Rattle.std.specs.Prelude.{◌≡◌, ◌≢◌, ℕ, ◌+◌, ◌-◌, ◌*◌, ◌/◌, ◌%◌, ◌^◌, ◌<◌, ◌≤◌, cond, nat_lt, nat_le, Option, Some, List, length, slice_index_or, slice_set, ◌⊎◌}
 use Rattle.std.specs.FinMap as finite
 use Rattle.std.specs.FinMap.{FinMap}
 use Rattle.std.specs.Ordering.{nat_cmp}
 use Rattle.moka_index.specs.declared.group.Group.{Group}
+use Rattle.moka_index.specs.EntryMap.{upto, IsApart}
 use Rattle.moka_index.specs.Group.{home, empty_group, entry_in, with_entry, raised, HasLanes}
 
 -- ---- round the table
@@ -38,23 +39,9 @@ with_reach groups first step = slice_set groups first (raised (group_at groups f
 abbrev pub entry_at : List Group → ℕ → Option (ℕ × ℕ)
 entry_at groups q = entry_in (group_at groups (q / 7)) (q % 7)
 
--- the map with this entry, if there is one
-abbrev pub put_entry : Option (ℕ × ℕ) → FinMap nat_cmp ℕ → FinMap nat_cmp ℕ
-put_entry None m = m
-put_entry (Some e) m = finite.insert m e.0 e.1
-
--- the map of the first entries
-abbrev pub upto : (ℕ → Option (ℕ × ℕ)) → ℕ → FinMap nat_cmp ℕ
-upto at zero = finite.empty
-upto at (suc k) = put_entry (at k) (upto at k)
-
 -- the hash of each place
 unfoldable pub entries_of : List Group → FinMap nat_cmp ℕ
 entries_of groups = upto (entry_at groups) (7 * length groups)
-
--- no place is in two lanes
-pub record IsApart (at : ℕ → Option (ℕ × ℕ)) : Type 0 where
-  pub same : (p q : ℕ) (a b : ℕ × ℕ) → at p ≡ Some a → at q ≡ Some b → a.0 ≡ b.0 → p ≡ q
 
 -- the group has its lanes, and its reach does not go round the table of n groups
 pub record IsShaped (n : ℕ) (g : Group) : Type 0 where

@@ -1,3 +1,4 @@
+pub mod EntryMap
 pub mod Group
 pub mod Groups
 pub mod PlaceIndex

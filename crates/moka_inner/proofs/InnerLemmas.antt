@@ -1,5 +1,5 @@
 -- How the facts of the inner part follow each kind of change.
-use Rattle.std.proofs.Common.{◌≡◌, ℕ, ◌+◌, ◌<◌, ◌≤◌, ◌^◌, List, [], ◌∷◌, ◌++◌, length, Some, None, option_map, ◌⊎◌, inl, inr, Result, Ok, Err, IsOk, OnOk, IfErr, refl, sym, ap, subst, ◌∙◌, arith}
+use Rattle.std.proofs.Common.{◌≡◌, ℕ, ◌+◌, ◌<◌, ◌≤◌, ◌^◌, List, [], ◌∷◌, ◌++◌, length, Some, None, option_map, ◌⊎◌, inl, inr, Result, Ok, Err, IsOk, OnOk, IfErr, refl, sym, ap, subst, ◌∙◌, arith, Option}
 use Rattle.std.specs.Prelude.{Contains}
 use Rattle.std.proofs.lemmas.List.{length-append, map-append}
 use Rattle.std.proofs.lemmas.List.Elements.{Contains-push_cases}
@@ -13,10 +13,14 @@ use Rattle.moka_parts.specs.declared.records.Record.{Record}
 use Rattle.moka_parts.specs.declared.records.ReadOperation.{ReadOperation}
 use Rattle.moka_parts.specs.declared.records.ReadOperation.TheVariants.{Hit, Miss}
 use Rattle.moka_parts.specs.declared.records.Ticketed.{Ticketed}
+use Rattle.moka_parts.specs.declared.notification.RemovalCause.{RemovalCause}
+use Rattle.moka_parts.specs.declared.policy.EvictionPolicy.{EvictionPolicy}
 use Rattle.moka_parts.specs.Calls.{queue_length}
 use Rattle.moka_parts.specs.Records.{Records}
 use Rattle.moka_parts.specs.Settling.{number_of, IsWaitingIn}
-use Rattle.moka_parts.proofs.RunKeeps.{Keeps}
+use Rattle.moka_parts.specs.Maintenance.{Choice}
+use Rattle.moka_parts.specs.State.{Contents}
+use Rattle.moka_parts.proofs.RunKeeps.{Keeps, keeps_writes, keeps_choices}
 use Rattle.moka_parts.proofs.Values.{len_removed, remove_absent}
 use Rattle.moka_parts.proofs.Waiting.{hands_out, waits_sent}
 use Rattle.moka_structures.specs.Pending.{Pending}
@@ -27,10 +31,14 @@ use Rattle.moka_maintenance.specs.declared.queued.PlacedWrite.{PlacedWrite}
 use Rattle.moka_maintenance.specs.declared.queued.QueuedWrite.{QueuedWrite}
 use Rattle.moka_maintenance.specs.declared.queued.QueuedRead.{QueuedRead}
 use Rattle.moka_maintenance.specs.Queued.{IsReadAt, handed_of, read_of, writes_of}
+use Rattle.moka_maintenance.specs.Queues.{AreApplied, LeavesNoRowBy}
+use Rattle.moka_maintenance.specs.Steps.{Stock, AddsNoPlace, LeavesNoRow, IsStepped, contents_in, contents_with, stock_in}
 use Rattle.moka_inner.specs.Inner.{IsInner, AreLocated, HasUse}
 use Rattle.moka_inner.specs.Interior.{IsLocated, IsReadLocated, operations_of}
 use Rattle.moka_maintenance.proofs.Fewer.{len-fewer}
+use Rattle.moka_maintenance.proofs.Placed.{none_inserted}
 use Rattle.moka_inner.proofs.ValuesLemmas.{get-map_values, map_values-insert, map_values-remove, map_values-found}
+use Rattle.moka_sketch.specs.Frequency.{Table}
 
 -- ---- where what waits is located
 
@@ -49,25 +57,13 @@ module _ (places : FinMap nat_cmp ℕ) (n place : ℕ) where
   read_placed-inserted at (Hit number hash renewed) h = placed-inserted number at h
   read_placed-inserted at (Miss hash) h = tt
 
-  -- a new row whose operation is handed out
-  located-inserted : (items : FinMap nat_cmp PlacedWrite) (writes : List QueuedWrite) (reads : List QueuedRead) (t : ℕ) (w : PlacedWrite) → AreLocated places n items writes reads → number_of w.operation ≡ n → w.place ≡ place → AreLocated (insert places n place) (n + 1) (insert items t w) writes reads
-  located-inserted items writes reads t w h number here = record {
+  located-grown : (items : FinMap nat_cmp PlacedWrite) (writes : List QueuedWrite) (reads : List QueuedRead) → AreLocated places n items writes reads → AreLocated (insert places n place) (n + 1) items writes reads
+  located-grown items writes reads h = record {
     given = λ m p at. elim (after_insert places n place m p at) [
       | inl same ↦ (let e = same.0 in omega arith)
       | inr other ↦ (let lt = h.given m p other.1 in omega arith)
     ];
-    handed = λ u x at. elim (after_insert items t w u x at) [
-      | inl same ↦ record {
-        given = (let e = ap (λ (x : PlacedWrite). number_of x.operation) same.1 ∙ number in omega arith);
-        at = λ p is.
-            let e = ap (λ (x : PlacedWrite). number_of x.operation) same.1 ∙ number in
-            let i : get (insert places n place) n ≡ Some p = subst (λ m. get (insert places n place) m ≡ Some p) e is in
-            let g = get-inserted places n place in
-            let f = ap (λ (x : PlacedWrite). x.place) same.1 ∙ here in
-            cc;
-      }
-      | inr other ↦ placed-inserted (number_of x.operation) x.place (h.handed u x other.1)
-    ];
+    handed = λ u x at. placed-inserted (number_of x.operation) x.place (h.handed u x at);
     sent = λ q at. placed-inserted (number_of q.write.operation) q.write.place (h.sent q at);
     seen = λ q at. read_placed-inserted q.place (read_of q) (h.seen q at);
   }
@@ -137,13 +133,6 @@ module _ {X : Type 0} (m : FinMap nat_cmp X) (n : ℕ) where
     | inr some ↦ (let e = len-kept m n x some.0 some.1 in omega arith)
   ]
 
-  -- a key that is replaced was there
-  none_before : (x y : X) → get m n ≡ Some y → (k : ℕ) → get (insert m n x) k ≡ None → get m k ≡ None
-  none_before x y there k none = elim (cases_eq k n) as (λ _. get m k ≡ None) [
-    | inl e ↦ (let g = get-inserted m n x in let t = ap (get (insert m n x)) e in cc)
-    | inr ne ↦ sym (get-past_insert m n x k ne) ∙ none
-  ]
-
   -- only the removed key is gone
   taken : (k : ℕ) (x : X) → get m k ≡ Some x → get (remove m n) k ≡ None → k ≡ n
   taken k x there gone = elim (cases_eq k n) as (λ _. k ≡ n) [
@@ -154,77 +143,72 @@ module _ {X : Type 0} (m : FinMap nat_cmp X) (n : ℕ) where
 -- ---- one change each
 
 module _ {K V S : Type 0} (kept after : Kept K V S) (out handed : Pending PlacedWrite) (writes : Buffer QueuedWrite) (reads : Buffer QueuedRead) (t n : ℕ) (h : IsInner kept out writes reads t n) where
+  -- an operation is handed out, whose number has its row at the place: a number with a row and no record had none
+  -- before, or the operation is its removal
+  inner-handed : (w : PlacedWrite) (next : ℕ) → handed.items ≡ insert out.items t w → AreLocated after.places next out.items writes.items reads.items → get after.places (number_of w.operation) ≡ Some w.place
+      → ((k p : ℕ) → get after.places k ≡ Some p → get after.records k ≡ None → ((get kept.places k ≡ Some p) × (get kept.records k ≡ None)) ⊎ ((generation : ℕ) × (Removal k generation ≡ w.operation)))
+      → ((k : ℕ) (r : Record K V) → get after.records k ≡ Some r → r.generation ≤ t) → (1 ≤ next) × (next ≤ t + 1) → t + 1 + len after.records ≤ 2 ^ 64 → len after.records ≤ handed.room → IsInner after handed writes reads (t + 1) next
+  inner-handed w next items located placed used generations numbers tickets removals = record {
+    located = rw items (located-handed after.places next out.items writes.items reads.items t w located placed);
+    used = rw items (λ k p row gone. elim (used k p row gone) [
+      | inl before ↦ (let was = h.used k p before.0 before.1 in (was.0, waits-handed out.items (writes_of writes.items) t w h.ticketed (Removal k was.0) (inl was.1)))
+      | inr now ↦ (now.0, waits-handed out.items (writes_of writes.items) t w h.ticketed (Removal k now.0) (inr now.1))
+    ]);
+    ticketed = rw items (ticketed-handed out.items t w h.ticketed);
+    generations = λ k r at. (let low = generations k r at in omega arith);
+    numbers = numbers;
+    tickets = tickets;
+    removals = removals;
+    write_queue = h.write_queue;
+    read_queue = h.read_queue;
+  }
+
   -- a new record with its operation
   pub inner-inserted : (r : Record K V) (w : PlacedWrite) → after.records ≡ insert kept.records n r → after.places ≡ insert kept.places n w.place → handed.items ≡ insert out.items t w → r.generation ≡ 1 → number_of w.operation ≡ n → t + len kept.records + 1 < 2 ^ 64 → len kept.records + 1 ≤ handed.room → IsInner after handed writes reads (t + 1) (n + 1)
   inner-inserted r w records places items generation number tickets room =
       let count = len-one_more kept.records n r in
       let same = ap len records in
-      record {
-        located = rw (places, items) (located-inserted kept.places n w.place out.items writes.items reads.items t w h.located number refl);
-        used = rw items (λ m p there gone. elim (after_insert kept.places n w.place m p (sym (ap (λ ps. get ps m) places) ∙ there)) [
-          | inl new ↦ (let is : get (insert kept.records n r) n ≡ None = sym (ap (get (insert kept.records n r)) new.0) ∙ sym (ap (λ (rs : Records K V). get rs m) records) ∙ gone in let some = get-inserted kept.records n r in cc)
-          | inr old ↦ (let before = h.used m p old.1 (sym (get-past_insert kept.records n r m old.0) ∙ sym (ap (λ (rs : Records K V). get rs m) records) ∙ gone) in (before.0, waits-handed out.items (writes_of writes.items) t w h.ticketed (Removal m before.0) (inl before.1)))
-        ]);
-        ticketed = rw items (ticketed-handed out.items t w h.ticketed);
-        generations = rw records (λ m q there. elim (after_insert kept.records n r m q there) [
-          | inl same ↦ (let e = ap (λ (q : Record K V). q.generation) same.1 in let first = h.numbers in omega arith)
-          | inr other ↦ (let lt = h.generations m q other.1 in omega arith)
-        ]);
-        numbers = (let first = h.numbers in (omega arith, omega arith));
-        tickets = omega arith;
-        removals = omega arith;
-        write_queue = h.write_queue;
-        read_queue = h.read_queue;
-      }
+      let first = h.numbers in
+      inner-handed w (n + 1) items (rw places (located-grown kept.places n w.place out.items writes.items reads.items h.located)) (rw (places, number) (get-inserted kept.places n w.place))
+      (λ m p row gone. elim (after_insert kept.places n w.place m p (sym (ap (λ ps. get ps m) places) ∙ row)) [
+        | inl new ↦ (let is : get (insert kept.records n r) n ≡ None = sym (ap (get (insert kept.records n r)) new.0) ∙ sym (ap (λ (rs : Records K V). get rs m) records) ∙ gone in let some = get-inserted kept.records n r in cc)
+        | inr old ↦ inl (old.1, sym (get-past_insert kept.records n r m old.0) ∙ sym (ap (λ (rs : Records K V). get rs m) records) ∙ gone)
+      ])
+      (rw records (λ m q there. elim (after_insert kept.records n r m q there) [
+        | inl same ↦ (let e = ap (λ (q : Record K V). q.generation) same.1 in omega arith)
+        | inr other ↦ (let lt = h.generations m q other.1 in omega arith)
+      ]))
+      (omega arith, omega arith) (omega arith) (omega arith)
 
   -- a record changed with its operation
   pub inner-updated : (m : ℕ) (old r : Record K V) (w : PlacedWrite) → get kept.records m ≡ Some old → after.records ≡ insert kept.records m r → after.places ≡ kept.places → handed.items ≡ insert out.items t w → r.generation ≡ old.generation + 1 → get kept.places (number_of w.operation) ≡ Some w.place → t + len kept.records < 2 ^ 64 → len kept.records ≤ handed.room → IsInner after handed writes reads (t + 1) n
   inner-updated m old r w there records places items generation placed tickets room =
       let count = ap len records ∙ len-kept kept.records m r old there in
       let low = h.generations m old there in
-      record {
-        located = rw (places, items) (located-handed kept.places n out.items writes.items reads.items t w h.located placed);
-        used = rw items (λ k p row gone.
-            let before = h.used k p (sym (ap (λ ps. get ps k) places) ∙ row) (gone_before k (sym (ap (λ (rs : Records K V). get rs k) records) ∙ gone)) in
-            (before.0, waits-handed out.items (writes_of writes.items) t w h.ticketed (Removal k before.0) (inl before.1)));
-        ticketed = rw items (ticketed-handed out.items t w h.ticketed);
-        generations = rw records (λ k q at. elim (after_insert kept.records m r k q at) [
-          | inl same ↦ (let e = ap (λ (q : Record K V). q.generation) same.1 in omega arith)
-          | inr other ↦ (let lt = h.generations k q other.1 in omega arith)
-        ]);
-        numbers = (let first = h.numbers in (omega arith, omega arith));
-        tickets = omega arith;
-        removals = omega arith;
-        write_queue = h.write_queue;
-        read_queue = h.read_queue;
-      }
-    where
-      gone_before : (k : ℕ) → get (insert kept.records m r) k ≡ None → get kept.records k ≡ None
-      gone_before k none = none_before kept.records m r old there k none
+      let first = h.numbers in
+      inner-handed w n items (rw places h.located) (rw places placed)
+      (λ k p row gone. inl (sym (ap (λ ps. get ps k) places) ∙ row, none_inserted kept.records m r k (sym (ap (λ (rs : Records K V). get rs k) records) ∙ gone)))
+      (rw records (λ k q at. elim (after_insert kept.records m r k q at) [
+        | inl same ↦ (let e = ap (λ (q : Record K V). q.generation) same.1 in omega arith)
+        | inr other ↦ (let lt = h.generations k q other.1 in omega arith)
+      ]))
+      (omega arith, omega arith) (omega arith) (omega arith)
 
   -- a record taken out with its operation
   pub inner-removed : (m : ℕ) (old : Record K V) (w : PlacedWrite) (generation : ℕ) → get kept.records m ≡ Some old → after.records ≡ remove kept.records m → after.places ≡ kept.places → handed.items ≡ insert out.items t w → w.operation ≡ Removal m generation → get kept.places m ≡ Some w.place → out.room ≤ handed.room + 1 → IsInner after handed writes reads (t + 1) n
   inner-removed m old w generation there records places items operation placed room =
       let one = len_removed kept.records m old there in
       let same = ap len records in
-      let here : get kept.places (number_of w.operation) ≡ Some w.place = ap (λ o. get kept.places (number_of o)) operation ∙ placed in
-      record {
-        located = rw (places, items) (located-handed kept.places n out.items writes.items reads.items t w h.located here);
-        used = rw items (λ k p row gone. in_use k p (sym (ap (λ ps. get ps k) places) ∙ row) (sym (ap (λ (rs : Records K V). get rs k) records) ∙ gone));
-        ticketed = rw items (ticketed-handed out.items t w h.ticketed);
-        generations = rw records (λ k q at. (let lt = h.generations k q (after_remove kept.records m k q at).1 in omega arith));
-        numbers = (let first = h.numbers in (omega arith, omega arith));
-        tickets = (let e = h.tickets in omega arith);
-        removals = (let e = h.removals in omega arith);
-        write_queue = h.write_queue;
-        read_queue = h.read_queue;
-      }
-    where
-      in_use : (k p : ℕ) → get kept.places k ≡ Some p → get (remove kept.records m) k ≡ None → (g : ℕ) × IsWaitingIn (operations_of (insert out.items t w)) (writes_of writes.items) (Removal k g)
-      in_use k p row gone = elim (option-cases (get kept.records k)) [
-        | inl none ↦ (let before = h.used k p row none in (before.0, waits-handed out.items (writes_of writes.items) t w h.ticketed (Removal k before.0) (inl before.1)))
-        | inr some ↦ (let same : k ≡ m = taken kept.records m k some.0 some.1 gone in (generation, waits-handed out.items (writes_of writes.items) t w h.ticketed (Removal k generation) (inr (ap (λ k. Removal k generation) same ∙ sym operation))))
-      ]
+      let first = h.numbers in
+      let tickets = h.tickets in
+      let removals = h.removals in
+      inner-handed w n items (rw places h.located) (rw (places, operation) placed)
+      (λ k p row gone. elim (option-cases (get kept.records k)) [
+        | inl none ↦ inl (sym (ap (λ ps. get ps k) places) ∙ row, none)
+        | inr some ↦ (let is = taken kept.records m k some.0 some.1 (sym (ap (λ (rs : Records K V). get rs k) records) ∙ gone) in inr (generation, ap (λ k. Removal k generation) is ∙ sym operation))
+      ])
+      (rw records (λ k q at. (let lt = h.generations k q (after_remove kept.records m k q at).1 in omega arith)))
+      (omega arith, omega arith) (omega arith) (omega arith)
 
   -- a record changed, and nothing handed out
   pub inner-touched : (m : ℕ) (old r : Record K V) → get kept.records m ≡ Some old → after.records ≡ insert kept.records m r → after.places ≡ kept.places → r.generation ≡ old.generation → IsInner after out writes reads t n
@@ -233,7 +217,7 @@ module _ {K V S : Type 0} (kept after : Kept K V S) (out handed : Pending Placed
       let low = h.generations m old there in
       record {
         located = rw places h.located;
-        used = λ k p row gone. h.used k p (sym (ap (λ ps. get ps k) places) ∙ row) (none_before kept.records m r old there k (sym (ap (λ (rs : Records K V). get rs k) records) ∙ gone));
+        used = λ k p row gone. h.used k p (sym (ap (λ ps. get ps k) places) ∙ row) (none_inserted kept.records m r k (sym (ap (λ (rs : Records K V). get rs k) records) ∙ gone));
         ticketed = h.ticketed;
         generations = rw records (λ k q at. elim (after_insert kept.records m r k q at) [
           | inl same ↦ (let e = ap (λ (q : Record K V). q.generation) same.1 in omega arith)
@@ -342,6 +326,40 @@ module _ {K V S : Type 0} (kept : Kept K V S) (out left : Pending PlacedWrite) (
     write_queue = h.write_queue;
     read_queue = (let r = h.read_queue in let f = fits refl in (r.0, omega (arith, length-append {A = QueuedRead})));
   })
+
+-- ---- both queues are applied, and passes are made
+
+module _ {K V L S : Type 0} (tells : L → K → V → RemovalCause → L → Type 0) (kept after : Kept K V S) (out : Pending PlacedWrite) (writes : Buffer QueuedWrite) (reads : Buffer QueuedRead) (t n : ℕ) (h : IsInner kept out writes reads t n) (l m : Option L) where
+  -- both queues were applied
+  pub inner-applied : (capacity : Option ℕ) (policy : EvictionPolicy) (sketch : Option Table) (mid : Kept K V S) → mid.records ≡ kept.records → mid.places ≡ kept.places → AreApplied tells capacity policy mid.ordered (contents_with sketch mid) (contents_with sketch after) mid.written after.written (writes_of writes.items) l m
+      → AddsNoPlace mid after → LeavesNoRowBy (writes_of writes.items) mid after → IsInner after out (buffer [] writes.capacity) (buffer [] reads.capacity) t n
+  inner-applied capacity policy sketch mid records places applied fewer rows =
+      let keeps : Keeps mid.records after.records = subst (λ (c : Contents K V). Keeps mid.records c.records) (sym applied.led) (keeps_writes capacity policy (contents_with sketch mid) (writes_of writes.items) applied.moves) in
+      let less : (k p : ℕ) → get after.places k ≡ Some p → get kept.places k ≡ Some p = λ k p there. subst (λ ps. get ps k ≡ Some p) places (fewer k p there) in
+      inner-left kept after out out writes reads t n h [] [] (λ q there. absurd (nothing_there q there)) (λ q there. absurd (nothing_there q there)) (omega arith) (omega arith) less
+      (subst (λ (rs : Records K V). Keeps rs after.records) records keeps)
+      (λ k p row gone.
+      let before = rows k p row gone in
+      let waits = h.used k p (less k p row) (sym (ap (λ (rs : Records K V). get rs k) records) ∙ before.0) in
+      (waits.0, still k waits.0 before.1 waits.1))
+    where
+      still : (k g : ℕ) → ((ticket generation : ℕ) → Contains (writes_of writes.items) (record { ticket = ticket; operation = Removal k generation }) → ⊥) → IsWaitingIn (operations_of out.items) (writes_of writes.items) (Removal k g) → IsWaitingIn (operations_of out.items) [] (Removal k g)
+      still k g none (inl handed) = inl handed
+      still k g none (inr queued) = absurd (none queued.0 g queued.1)
+
+  -- passes were made
+  pub inner-passed : (May : Stock K V → Choice → Type 0) → IsStepped tells May (stock_in kept) (stock_in after) l m → AddsNoPlace kept after → LeavesNoRow kept after → IsInner after out writes reads t n
+  inner-passed May by fewer rows =
+      inner-left kept after out out writes reads t n h writes.items reads.items (λ q there. there) (λ q there. there) (omega arith) (omega arith) fewer
+      (subst (λ (c : Stock K V). Keeps kept.records c.contents.records) (sym by.led) (keeps_choices (contents_in kept) by.steps))
+      (λ k p row gone. h.used k p (fewer k p row) (rows k p row gone))
+
+-- a number without a record, no removal of which waits, has no row
+pub located-nowhere : {K V S : Type 0} (kept : Kept K V S) (out : Pending PlacedWrite) (writes : Buffer QueuedWrite) (reads : Buffer QueuedRead) (t n : ℕ) → IsInner kept out writes reads t n → (number place : ℕ) → number < n → get kept.records number ≡ None → ((generation : ℕ) → IsWaitingIn (operations_of out.items) (writes_of writes.items) (Removal number generation) → ⊥) → IsLocated kept.places n number place
+located-nowhere kept out writes reads t n h number place given gone stays = record {
+  given = given;
+  at = λ p there. (let waits = h.used number p there gone in absurd (stays waits.0 waits.1));
+}
 
 -- with no record and nothing waiting
 pub inner-new : {K V S : Type 0} (kept : Kept K V S) (out : Pending PlacedWrite) (writes : Buffer QueuedWrite) (reads : Buffer QueuedRead) (t : ℕ) → kept.records ≡ empty → kept.places ≡ empty → out.items ≡ empty → writes ≡ buffer [] queue_length → reads ≡ buffer [] queue_length → 1 ≤ t → t ≤ 2 ^ 64 → IsInner kept out writes reads t 1

@@ -1,3 +1,2 @@
 pub mod ValuesLemmas
 pub mod InnerLemmas
-pub mod InnerRuns

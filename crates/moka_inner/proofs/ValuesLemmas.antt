@@ -1,14 +1,11 @@
 -- What `map_values` answers, and how it follows an insertion and a removal.
-use Rattle.std.proofs.Common.{◌≡◌, ℕ, suc, Bool, true, false, cond, ◌&&◌, List, [], ◌∷◌, map, length, Option, Some, None, option_map, T, refl, sym, ap, subst, ◌∙◌}
+use Rattle.std.proofs.Common.{◌≡◌, ℕ, Bool, true, false, cond, ◌&&◌, List, [], ◌∷◌, map, length, Option, Some, None, option_map, T, refl, sym, ap, subst, ◌∙◌}
+use Rattle.std.proofs.lemmas.List.{length-map}
 use Rattle.std.specs.Ordering.{nat_cmp, eq_by_cmp, is_lt}
 use Rattle.std.specs.Cmp.{nat_cmp_total}
 use Rattle.std.specs.FinMap.{FinMap, entries, entries_sorted, is_sorted, find, get, insert, remove, len, keys, empty, get-empty, get-entries, get-insert, get-remove, len-entries, entries-from_sorted, same_map, nat_cmp-IsAntisymmetric}
 use Rattle.std.specs.FinMap.Entries.{below_all}
 use Rattle.moka_inner.specs.Values.{map_entry, map_values}
-
-length-map : {A B : Type 0} (f : A → B) (xs : List A) → length (map f xs) ≡ length xs
-length-map f [] = refl
-length-map f (x ∷ xs) = ap (λ n. suc n) (length-map f xs)
 
 module _ {A B : Type 0} (f : A → B) where
   find-map : (q : ℕ) (es : List (ℕ × A)) → find nat_cmp q (map (map_entry f) es) ≡ option_map f (find nat_cmp q es)
@@ -34,7 +31,7 @@ module _ {A B : Type 0} (f : A → B) where
   get-map_values m q = get-entries (map_values f m) q ∙ (ap (find nat_cmp q) (entries-map_values m) ∙ (find-map q (entries m) ∙ ap (λ o. option_map f o) (sym (get-entries m q))))
 
   pub len-map_values : (m : FinMap nat_cmp A) → len (map_values f m) ≡ len m
-  len-map_values m = len-entries (map_values f m) ∙ (ap length (entries-map_values m) ∙ (length-map (map_entry f) (entries m) ∙ sym (len-entries m)))
+  len-map_values m = len-entries (map_values f m) ∙ (ap length (entries-map_values m) ∙ (length-map (entries m) (map_entry f) ∙ sym (len-entries m)))
 
   option_map-cond : (b : Bool) (o p : Option A) → option_map f (cond b o p) ≡ cond b (option_map f o) (option_map f p)
   option_map-cond true o p = refl

@@ -1,5 +1,5 @@
 -- Records that leave by their timers, one after the other.
-use Rattle.std.proofs.Common.{◌≡◌, ◌≢◌, refl, ℕ, ◌+◌, ◌<◌, ◌≤◌, ◌⊎◌, Bool, true, false, true≢false, nat_le, List, [], ◌∷◌, length, Option, Some, None, is_some, inl, inr, ap, sym, subst, ◌∙◌, arith, if◌then◌else◌}
+use Rattle.std.proofs.Common.{◌≡◌, refl, ℕ, ◌+◌, ◌<◌, ◌≤◌, ◌⊎◌, Bool, true, false, true≢false, nat_le, length, Option, Some, None, inl, inr, ap, sym, subst, ◌∙◌, arith, if◌then◌else◌}
 use Rattle.std.proofs.lemmas.Bool.{cases_eq}
 use Rattle.std.proofs.lemmas.List.Sorted.{sum_by_pushed}
 use Rattle.std.specs.Option.{option_map_or}
@@ -9,21 +9,20 @@ use Rattle.std.specs.Ordering.{nat_cmp}
 use Rattle.moka_parts.specs.declared.notification.RemovalCause.{RemovalCause}
 use Rattle.moka_parts.specs.declared.notification.RemovalCause.TheVariants.{Expired}
 use Rattle.moka_parts.specs.declared.records.Record.{Record}
-use Rattle.moka_parts.specs.Records.{is_applied, is_member, is_settled}
+use Rattle.moka_parts.specs.Records.{is_applied, is_settled}
 use Rattle.moka_parts.specs.Time.{has_passed, moment_of}
 use Rattle.moka_parts.specs.Maintenance.{Choice, Removes, MovesToBack, Drops, left_by_choice}
-use Rattle.moka_parts.proofs.AccessList.{counted-to_back}
 use Rattle.moka_parts.proofs.Values.{remove_absent, values_inserted, values_removed}
 use Rattle.moka_store.specs.Store.{Kept, with_timer}
-use Rattle.moka_store.proofs.Gets.{after_remove, get-past_insert, get-past_remove}
+use Rattle.moka_store.proofs.Gets.{get-past_remove, get-removed}
 use Rattle.moka_maintenance.specs.declared.sweep.Tests.{Tests}
-use Rattle.moka_maintenance.specs.Steps.{Stock, Told, after_step, after_steps, stock_in, MayLeave}
+use Rattle.moka_maintenance.specs.Steps.{Stock, Told, after_step, MayLeave}
 use Rattle.moka_maintenance.specs.Sweeps.{MayExpire, ExpiresDue}
-use Rattle.moka_maintenance.specs.Timers.{IsReset, KeepsTimers}
-use Rattle.moka_maintenance.specs.Upkeep.{Upkeep}
-use Rattle.moka_maintenance.proofs.Stepped.{may-also, removed-on, shrinks, stepped-none, stepped-one, stepped-on}
-use Rattle.moka_maintenance.proofs.Timing.{member-was}
-use Rattle.moka_store.proofs.TableMaps.{get-altered}
+use Rattle.moka_maintenance.specs.Upkeep.{Upkeep, IsReset}
+use Rattle.moka_maintenance.proofs.Stepped.{removed-on, stepped-none, stepped-one, stepped-on, shorter}
+use Rattle.moka_maintenance.proofs.Timing.{timer-set}
+use Rattle.moka_maintenance.proofs.Upkeep.{upkeep-none, upkeep-timed}
+use Rattle.std.proofs.lemmas.Option.{same_Some}
 
 -- ---- how many timers are due
 
@@ -53,63 +52,33 @@ module _ (now : ℕ) (timers : FinMap nat_cmp ℕ) (n t : ℕ) where
       let zero : due_as_one now t ≡ 0 = ap (λ b. if b then 1 else 0) later in
       omega arith
 
--- ---- records and members were there before
-
-module _ {K V : Type 0} where
-  pub still-was : (c : Stock K V) (xs : List Choice) (k : ℕ) (r : Record K V) → get (after_steps c xs).contents.records k ≡ Some r → get c.contents.records k ≡ Some r
-  still-was c [] k r there = there
-  still-was c (Removes n cause ∷ xs) k r there = (after_remove c.contents.records n k r (still-was (after_step c (Removes n cause)) xs k r there)).1
-  still-was c (MovesToBack n ∷ xs) k r there = still-was (after_step c (MovesToBack n)) xs k r there
-  still-was c (Drops i ∷ xs) k r there = still-was c xs k r there
-
-  pub still-member : (c : Stock K V) (xs : List Choice) (k : ℕ) → is_member k (after_steps c xs).contents.access ≡ true → is_member k c.contents.access ≡ true
-  still-member c [] k there = there
-  still-member c (Removes n cause ∷ xs) k there = member-was n k c.contents.access (still-member (after_step c (Removes n cause)) xs k there)
-  still-member c (MovesToBack n ∷ xs) k there = sym (ap is_some (counted-to_back n k c.contents.access)) ∙ still-member (after_step c (MovesToBack n)) xs k there
-  still-member c (Drops i ∷ xs) k there = still-member c xs k there
-
 -- ---- one timer
 
 module _ {K V S : Type 0} (now n : ℕ) (old new : Kept K V S) (untimed : get old.timers n ≡ None) where
   -- its member is not settled
   pub reset-waiting : is_settled old.records n ≡ false → IsReset now n old old
   reset-waiting waiting = record {
-    ordered = refl;
-    timed = refl;
-    hasher = refl;
+    upkeep = upkeep-none old;
     timers = inl refl;
     own = λ kept r there applied. absurd (true≢false (sym applied ∙ sym (ap (λ o. option_map_or is_applied o false) there) ∙ waiting));
-    places = λ k p at. at;
-    rows = λ k p at gone. gone;
-    room = omega arith;
   }
 
   -- its record leaves
   pub reset-gone : get new.records n ≡ None → Upkeep old new → new.timers ≡ remove old.timers n → IsReset now n old new
   reset-gone gone keeps taken = record {
-    ordered = keeps.timers.ordered;
-    timed = keeps.timers.timed;
-    hasher = keeps.timers.hasher;
+    upkeep = keeps;
     timers = inl (taken ∙ remove_absent old.timers n untimed);
     own = λ kept r there applied. (let bad : None ≡ Some r = sym gone ∙ there in cc);
-    places = keeps.places;
-    rows = keeps.rows;
-    room = keeps.room;
   }
 
   -- it is set again
   pub reset-set : (r : Record K V) → get old.records n ≡ Some r → has_passed (moment_of r.expires) now ≡ false → new ≡ record old { timers = if old.timed then with_timer old.timers n (moment_of r.expires) else old.timers } → IsReset now n old new
   reset-set r found later step = record {
-    ordered = ap (λ (k : Kept K V S). k.ordered) step;
-    timed = ap (λ (k : Kept K V S). k.timed) step;
-    hasher = ap (λ (k : Kept K V S). k.hasher) step;
-    timers = subst (λ ts. (ts ≡ old.timers) ⊎ ((t : ℕ) × (now < t) × (ts ≡ insert old.timers n t))) (sym (ap (λ (k : Kept K V S). k.timers) step)) (set old.timed (moment_of r.expires) later);
+    upkeep = upkeep-timed old new n r found step;
+    timers = subst (λ (k : Kept K V S). (k.timers ≡ old.timers) ⊎ ((t : ℕ) × (now < t) × (k.timers ≡ insert old.timers n t))) (sym step) (set old.timed (moment_of r.expires) later);
     own = λ kept p there applied.
-        (let is : r ≡ p = (let f = sym found ∙ (sym (ap (λ (k : Kept K V S). get k.records n) step) ∙ there) in cc) in
-        ap (λ (k : Kept K V S). get k.timers n) step ∙ ap (λ b. get (if b then with_timer old.timers n (moment_of r.expires) else old.timers) n) kept ∙ get-altered old.timers n (moment_of r.expires) ∙ ap (λ (x : Record K V). moment_of x.expires) is);
-    places = λ k p at. sym (ap (λ (s : Kept K V S). get s.places k) step) ∙ at;
-    rows = λ k p at gone. sym (ap (λ (s : Kept K V S). get s.records k) step) ∙ gone;
-    room = (let same = ap (λ (s : Kept K V S). s.room) step in omega arith);
+        ap (λ (k : Kept K V S). get k.timers n) step ∙ timer-set old.timed old.timers n (moment_of r.expires) kept
+        ∙ ap (λ (x : Record K V). moment_of x.expires) (same_Some r p (sym found ∙ sym (ap (λ (k : Kept K V S). get k.records n) step) ∙ there));
   }
     where
       set : (b : Bool) (o : Option ℕ) → has_passed o now ≡ false → ((if b then with_timer old.timers n o else old.timers) ≡ old.timers) ⊎ ((t : ℕ) × (now < t) × ((if b then with_timer old.timers n o else old.timers) ≡ insert old.timers n t))
@@ -123,6 +92,31 @@ module _ {K V S : Type 0} (now n : ℕ) (old new : Kept K V S) (untimed : get ol
     | inl same ↦ ap (how_many_due now) same
     | inr at ↦ ap (how_many_due now) at.2 ∙ same-due now old.timers n at.0 untimed at.1
   ]
+
+-- a timer that was due is taken out, and then its member leaves or stays
+module _ {K V S : Type 0} (now n : ℕ) (old new : Kept K V S) (reset : IsReset now n (record old { timers = remove old.timers n }) new) where
+  pub upkeep-due : Upkeep old new
+  upkeep-due = record {
+    timers = record {
+      ordered = reset.upkeep.timers.ordered;
+      timed = reset.upkeep.timers.timed;
+      hasher = reset.upkeep.timers.hasher;
+      set = λ kept k p there is_in applied. elim (cases_eq k n) [
+        | inl same ↦ inr (ap (get new.timers) same ∙ reset.own kept p (sym (ap (get new.records) same) ∙ there) applied)
+        | inr other ↦ elim (reset.upkeep.timers.set kept k p there is_in applied) [
+          | inl was ↦ inl (was.0, was.1, was.2 ∙ get-past_remove old.timers n k other)
+          | inr at ↦ inr at
+        ]
+      ];
+    };
+    places = reset.upkeep.places;
+    rows = reset.upkeep.rows;
+    room = reset.upkeep.room;
+  }
+
+  pub fewer-due : (t : ℕ) → get old.timers n ≡ Some t → t ≤ now → how_many_due now new.timers < how_many_due now old.timers
+  fewer-due t there is =
+      subst (λ k. k < how_many_due now old.timers) (sym (reset-due now n (record old { timers = remove old.timers n }) new (get-removed old.timers n) reset)) (less-due now old.timers n t there is)
 
 module _ {K V L : Type 0} (tells : L → K → V → RemovalCause → L → Type 0) (q : Tests) where
   pub expires-none : (c : Stock K V) (l : Option L) → ExpiresDue tells q c c l l 0
@@ -142,44 +136,9 @@ module _ {K V L : Type 0} (tells : L → K → V → RemovalCause → L → Type
 
   expiry_leaves : (c : Stock K V) (x : Choice) → MayExpire q c x → MayLeave c x
   expiry_leaves c (Removes n cause) may = (may.0, may.1, may.2)
-  expiry_leaves c (MovesToBack n) may = absurd may
+  expiry_leaves c (MovesToBack n) may = (may.1, may.2)
   expiry_leaves c (Drops i) may = absurd may
 
   -- no more leave than there are members
   pub expires-few : (a b : Stock K V) (l m : Option L) (r : ℕ) → ExpiresDue tells q a b l m r → r ≤ length a.contents.access
-  expires-few a b l m r h = let less = shrinks a h.by.steps (may-also (MayExpire q) MayLeave expiry_leaves a h.by.steps h.by.may) in let count = h.count in omega arith
-
-  -- a timer that was due is taken out, and then its member leaves or stays
-  module _ {S : Type 0} (old mid new : Kept K V S) (l m : Option L) (n r : ℕ) (taken : mid ≡ record old { timers = remove old.timers n }) (reset : IsReset q.now.0 n mid new) (expired : ExpiresDue tells q (stock_in mid) (stock_in new) l m r) where
-    keeps_timers : KeepsTimers old new
-    keeps_timers = record {
-      ordered = reset.ordered ∙ ap (λ (k : Kept K V S). k.ordered) taken;
-      timed = reset.timed ∙ ap (λ (k : Kept K V S). k.timed) taken;
-      hasher = reset.hasher ∙ ap (λ (k : Kept K V S). k.hasher) taken;
-      set = λ kept k p there is_in applied. elim (cases_eq k n) [
-        | inl same ↦ inr (ap (get new.timers) same ∙ reset.own (ap (λ (k : Kept K V S). k.timed) taken ∙ kept) p (sym (ap (get new.records) same) ∙ there) applied)
-        | inr other ↦ inl (
-          sym (ap (λ (s : Kept K V S). get s.records k) taken) ∙ still-was (stock_in mid) expired.by.steps k p (sym (ap (λ (s : Stock K V). get s.contents.records k) expired.by.led) ∙ there),
-          sym (ap (λ (s : Kept K V S). is_member k s.access) taken) ∙ still-member (stock_in mid) expired.by.steps k (sym (ap (λ (s : Stock K V). is_member k s.contents.access) expired.by.led) ∙ is_in),
-          others k other ∙ ap (λ (s : Kept K V S). get s.timers k) taken ∙ get-past_remove old.timers n k other,
-        )
-      ];
-    }
-      where
-        others : (k : ℕ) → k ≢ n → get new.timers k ≡ get mid.timers k
-        others k other = elim reset.timers [
-          | inl same ↦ ap (λ m. get m k) same
-          | inr at ↦ ap (λ m. get m k) at.2 ∙ get-past_insert mid.timers n at.0 k other
-        ]
-
-    pub upkeep-due : Upkeep old new
-    upkeep-due = record {
-      timers = keeps_timers;
-      places = λ k p at. sym (ap (λ (s : Kept K V S). get s.places k) taken) ∙ reset.places k p at;
-      rows = λ k p at gone. sym (ap (λ (s : Kept K V S). get s.records k) taken) ∙ reset.rows k p at gone;
-      room = (let same = ap (λ (s : Kept K V S). s.room) taken in let more = reset.room in omega arith);
-    }
-
-    pub fewer-due : (t : ℕ) → get old.timers n ≡ Some t → t ≤ q.now.0 → get mid.timers n ≡ None → how_many_due q.now.0 new.timers < how_many_due q.now.0 old.timers
-    fewer-due t there is untimed =
-        subst (λ k. k < how_many_due q.now.0 old.timers) (sym (reset-due q.now.0 n mid new untimed reset ∙ ap (λ (k : Kept K V S). how_many_due q.now.0 k.timers) taken)) (less-due q.now.0 old.timers n t there is)
+  expires-few a b l m r h = let less = shorter tells (MayExpire q) expiry_leaves a b l m h.by in let count = h.count in omega arith

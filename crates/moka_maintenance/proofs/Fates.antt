@@ -1,8 +1,8 @@
 -- What becomes of an upsert, by its fate.
-use Rattle.std.proofs.Common.{◌≡◌, refl, ℕ, ◌<◌, ◌≤◌, Bool, true, false, List, [], ◌∷◌, ◌++◌, Option, Some, None, ◌⊎◌, inl, inr, is_some, nat_lt, ap, sym, ◌∙◌, subst, arith, if◌then◌else◌}
+use Rattle.std.proofs.Common.{◌≡◌, refl, ℕ, ◌<◌, ◌≤◌, Bool, true, false, List, [], ◌∷◌, ◌++◌, Option, Some, None, ◌⊎◌, inl, inr, is_some, nat_lt, ap, sym, ◌∙◌, subst, arith, if◌then◌else◌, take}
 use Rattle.std.specs.Option.{option_map_or}
 use Rattle.std.proofs.lemmas.Bool.{cond-false, eq-eqb}
-use Rattle.std.specs.FinMap.{get, remove}
+use Rattle.std.specs.FinMap.{get, remove, insert}
 use Rattle.moka_parts.specs.declared.notification.RemovalCause.{RemovalCause}
 use Rattle.moka_parts.specs.declared.notification.RemovalCause.TheVariants.{Size}
 use Rattle.moka_parts.specs.declared.policy.EvictionPolicy.{EvictionPolicy}
@@ -10,13 +10,13 @@ use Rattle.moka_parts.specs.declared.policy.EvictionPolicy.TheVariants.{TinyLfu}
 use Rattle.moka_parts.specs.declared.records.Record.{Record}
 use Rattle.moka_parts.specs.declared.records.Member.{Member}
 use Rattle.moka_parts.specs.declared.records.Operation.TheVariants.{Removal, Upsert}
-use Rattle.moka_parts.specs.Records.{counted_of, entered_by, has_room, is_listed, is_member, number_to_back, to_back, total_weight, without_member, without_number}
+use Rattle.moka_parts.specs.Records.{counted_of, entered_by, has_room, is_listed, is_member, number_to_back, to_back, total_weight, without_member, without_number, member, without_numbers}
 use Rattle.moka_parts.specs.State.{Contents}
 use Rattle.moka_parts.specs.Candidates.{are_unsettled, is_preferred, victims_for}
-use Rattle.moka_parts.specs.Writes.{AreMoves, Fate, Ignored, Overtaken, Counted, Admitted, TooHeavy, Preferred, Refused, is_compared, fate, fate_of_record, fate_of_newcomer, fate_by_policy, fate_by_frequency, after_fate, left_by_fate, left_by_rejection, entered, rejected, with_applied}
+use Rattle.moka_parts.specs.Writes.{AreMoves, Fate, Ignored, Overtaken, Counted, Admitted, TooHeavy, Preferred, Refused, is_compared, fate, fate_of_record, fate_of_newcomer, fate_by_policy, fate_by_frequency, after_fate, left_by_fate, left_by_rejection, entered, rejected, with_applied, left_with, with_moved, without_victims}
 use Rattle.moka_parts.specs.Maintenance.{Removes, after_choice}
 use Rattle.moka_parts.specs.Order.{IsListOf, written_after_fate}
-use Rattle.moka_parts.proofs.AccessList.{absent_taken_out}
+use Rattle.moka_parts.proofs.AccessList.{absent_taken_out, counted-all_to_back}
 use Rattle.moka_sketch.specs.Frequency.{Table}
 use Rattle.moka_store.specs.Store.{Kept}
 use Rattle.moka_store.proofs.Gets.{none_by_test, some_is}
@@ -27,8 +27,9 @@ use Rattle.moka_maintenance.specs.Handles.{IsOutside}
 use Rattle.moka_maintenance.specs.Steps.{Told, contents_in, contents_with}
 use Rattle.moka_maintenance.specs.Queues.{AppliesUpsert, IsApplied, IsCompared}
 use Rattle.moka_maintenance.specs.Upkeep.{Upkeep}
-use Rattle.moka_maintenance.proofs.AllApplied.{applies-upsert}
+use Rattle.moka_maintenance.specs.Chosen.{Chooses}
 use Rattle.moka_maintenance.proofs.Told.{told-none}
+use Rattle.moka_maintenance.proofs.Upkeep.{untimed-moved}
 
 module _ {K V : Type 0} (capacity : Option ℕ) (policy : EvictionPolicy) (c : Contents K V) (weight hash : ℕ) where
   -- a newcomer enters where there is room for it
@@ -125,6 +126,12 @@ module _ {K V L : Type 0} (tells : L → K → V → RemovalCause → L → Type
     applied-newcomer : r.applied < generation → is_member number c.access ≡ false → (moved : List ℕ) (f : Fate) → fate_of_newcomer capacity policy c weight hash ≡ f → (moved ≡ []) ⊎ ((is_compared f ≡ true) × (are_unsettled c.records moved ≡ true)) → d ≡ after_fate c number generation weight moved r f → (ordered ≡ true → ms ≡ written_after_fate true number ns f) → Told tells l (left_by_fate c generation r f) m → IsApplied tells capacity policy ordered c d ns ms (Upsert number generation weight hash) l m
     applied-newcomer new apart moved f is = by_fate moved f (fate_newer new ∙ ap newer apart ∙ is)
 
+-- an upsert, which is no removal
+pub applies-upsert : {K V S L : Type 0} (tells : L → K → V → RemovalCause → L → Type 0) (bounds : Bounds) (sketch : Option Table) (old new : Kept K V S) (u : PlacedUpsert) (l m : Option L)
+    → IsApplied tells bounds.capacity bounds.policy old.ordered (contents_with sketch old) (contents_with sketch new) old.written new.written (Upsert u.handle.number u.generation u.weight u.hash) l m
+    → Upkeep old new → AppliesUpsert tells bounds sketch old new u l m
+applies-upsert tells bounds sketch old new u l m applied upkeep = record { applied = applied; upkeep = upkeep; rows = λ n p at gone. (upkeep.rows n p at gone, λ generation is. cc) }
+
 -- an upsert of a record outside the access list, in a store
 module _ {K V S L : Type 0} (tells : L → K → V → RemovalCause → L → Type 0) (bounds : Bounds) (sketch : Option Table) (old new : Kept K V S) (u : PlacedUpsert) (l m : Option L) (outside : IsOutside old u.handle) (newer : (r : Record K V) → get old.records u.handle.number ≡ Some r → r.applied < u.generation) (upkeep : Upkeep old new) where
   there : (r : Record K V) × (get old.records u.handle.number ≡ Some r)
@@ -147,8 +154,59 @@ module _ {K V S L : Type 0} (tells : L → K → V → RemovalCause → L → Ty
   pub applies-compared : fate_of_newcomer bounds.capacity bounds.policy (contents_with sketch old) u.weight u.hash ≡ fate_by_policy TinyLfu (contents_with sketch old) u.weight u.hash → ((r : Record K V) → get old.records u.handle.number ≡ Some r → IsCompared tells old.ordered (contents_with sketch old) (contents_with sketch new) old.written new.written u.handle.number u.generation u.weight u.hash r l m) → AppliesUpsert tells bounds sketch old new u l m
   applies-compared is all = (let by = all there.0 there.1 in let victims = victims_for (contents_with sketch old) u.weight in applies by.moved (fate_by_frequency (contents_with sketch old) u.hash victims) is (inr (compared (contents_with sketch old) u.hash victims, by.unsettled)) by.led by.listed by.told)
 
+-- a record has seen an operation, and then its member goes to the back with another weight
+pub entered-recounted : {K V S : Type 0} (old mid new : Kept K V S) (n generation weight : ℕ) (r : Record K V) → mid ≡ record old { records = insert old.records n (record r { applied = generation }) } → (sketch : Option Table) → contents_with sketch new ≡ contents_with sketch (record mid { access = without_member n mid.access ++ member n weight ∷ [] }) → contents_with sketch new ≡ entered n generation weight r (record (contents_with sketch old) { access = without_member n old.access })
+entered-recounted {K} {V} {S} old mid new n generation weight r seen sketch step = step ∙ ap (λ (m : Kept K V S). contents_with sketch (record m { access = without_member n m.access ++ member n weight ∷ [] })) seen
+
 -- a record that no list has leaves as one that is rejected
 pub rejected-gone : {K V : Type 0} (c d : Contents K V) (number generation : ℕ) (r : Record K V) → r.generation ≡ generation → counted_of number c.access ≡ None → d ≡ after_choice c (Removes number Size) → d ≡ rejected number generation r c
 rejected-gone c d number generation r same apart led =
     led ∙ ap (λ xs. record c { records = remove c.records number; access = xs }) (absent_taken_out number c.access apart)
     ∙ sym (ap (λ b. record c { records = if b then remove c.records number else with_applied c.records number r generation }) (eq-eqb r.generation generation same))
+
+-- ---- a candidate that was compared enters in its victims' place, or is rejected
+
+-- what the comparison moves keeps its timer and its row
+pub upkeep-chosen : {K V S : Type 0} (sketch : Option Table) (old mid : Kept K V S) (weight hash victims : ℕ) {preferred : Bool} → Chooses (contents_with sketch old) weight hash mid.access victims preferred → mid ≡ record old { access = mid.access } → Upkeep old mid
+upkeep-chosen sketch old mid weight hash victims chosen rest = (untimed-moved old mid rest (λ k. ap (counted_of k) chosen.order ∙ counted-all_to_back chosen.moved k old.access)).keeps
+
+module _ {K V S : Type 0} (sketch : Option Table) (old mid : Kept K V S) (number generation weight hash victims : ℕ) {preferred : Bool} (chosen : Chooses (contents_with sketch old) weight hash mid.access victims preferred) (rest : mid ≡ record old { access = mid.access }) where
+  -- a record outside the access list stays outside
+  pub still_apart : counted_of number old.access ≡ None → counted_of number mid.access ≡ None
+  still_apart apart = ap (counted_of number) chosen.order ∙ counted-all_to_back chosen.moved number old.access ∙ apart
+
+  moved_is : contents_with sketch mid ≡ with_moved chosen.moved (contents_with sketch old)
+  moved_is = ap (contents_with sketch) rest ∙ ap (λ xs. record (contents_with sketch old) { access = xs }) chosen.order
+
+  fate_is : (b : Bool) → preferred ≡ b → fate_by_frequency (contents_with sketch old) hash (victims_for (contents_with sketch old) weight) ≡ (if b then Preferred (take victims mid.access) else Refused)
+  fate_is b is = chosen.fate ∙ ap (λ b. if b then Preferred (take victims mid.access) else Refused) is
+
+  module _ {L : Type 0} (tells : L → K → V → RemovalCause → L → Type 0) (r : Record K V) (new : Kept K V S) (l m : Option L) where
+    compared_by : (f : Fate) → fate_by_frequency (contents_with sketch old) hash (victims_for (contents_with sketch old) weight) ≡ f → contents_with sketch new ≡ after_fate (contents_with sketch old) number generation weight chosen.moved r f → (old.ordered ≡ true → new.written ≡ written_after_fate true number old.written f) → Told tells l (left_by_fate (contents_with sketch old) generation r f) m
+        → IsCompared tells old.ordered (contents_with sketch old) (contents_with sketch new) old.written new.written number generation weight hash r l m
+    compared_by f is led listed told = record {
+      moved = chosen.moved;
+      unsettled = chosen.unsettled;
+      led = led ∙ sym (ap (after_fate (contents_with sketch old) number generation weight chosen.moved r) is);
+      listed = λ kept. listed kept ∙ sym (ap (written_after_fate true number old.written) is);
+      told = subst (λ f. Told tells l (left_by_fate (contents_with sketch old) generation r f) m) (sym is) told;
+    }
+
+    -- it is preferred: the victims leave, and it enters
+    pub compared-preferred : (gone : Kept K V S) → preferred ≡ true → contents_in gone ≡ without_victims (take victims mid.access) (contents_in mid) → contents_in new ≡ entered number generation weight r (contents_in gone) → gone.ordered ≡ mid.ordered → gone.written ≡ without_numbers (take victims mid.access) mid.written → new.written ≡ entered_by gone.ordered number gone.written → Told tells l (left_with (take victims mid.access) mid.records) m
+        → IsCompared tells old.ordered (contents_with sketch old) (contents_with sketch new) old.written new.written number generation weight hash r l m
+    compared-preferred gone is leave enter ordered without within told =
+        compared_by (Preferred (take victims mid.access)) (fate_is true is)
+        (ap (λ (c : Contents K V). record c { sketch = sketch }) enter
+        ∙ ap (λ (c : Contents K V). entered number generation weight r (record c { sketch = sketch })) leave
+        ∙ ap (λ (c : Contents K V). entered number generation weight r (without_victims (take victims mid.access) c)) moved_is)
+        (λ kept.
+        within ∙ ap (λ b. entered_by b number gone.written) (ordered ∙ ap (λ (k : Kept K V S). k.ordered) rest ∙ kept)
+        ∙ ap (entered_by true number) (without ∙ ap (λ (k : Kept K V S). without_numbers (take victims mid.access) k.written) rest))
+        (subst (λ (k : Kept K V S). Told tells l (left_with (take victims mid.access) k.records) m) rest told)
+
+    -- it is rejected
+    pub compared-refused : preferred ≡ false → contents_in new ≡ rejected number generation r (contents_in mid) → (mid.ordered ≡ true → new.written ≡ mid.written) → Told tells l (left_by_rejection generation r) m → IsCompared tells old.ordered (contents_with sketch old) (contents_with sketch new) old.written new.written number generation weight hash r l m
+    compared-refused is leave written told =
+        compared_by Refused (fate_is false is) (ap (λ (c : Contents K V). record c { sketch = sketch }) leave ∙ ap (λ (c : Contents K V). rejected number generation r c) moved_is)
+        (λ kept. written (ap (λ (k : Kept K V S). k.ordered) rest ∙ kept) ∙ ap (λ (k : Kept K V S). k.written) rest) told

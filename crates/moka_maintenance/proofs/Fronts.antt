@@ -1,5 +1,5 @@
 -- The front of the access list, and what it is once the front went to the back.
-use Rattle.std.proofs.Common.{◌≡◌, refl, ℕ, ◌+◌, Bool, true, false, cond, not, ◌==◌, List, [], ◌∷◌, ◌++◌, length, Option, Some, None, IsSome, is_some, option_map, option_to_list, ◌&&◌, ap, sym, subst, ◌∙◌, arith}
+use Rattle.std.proofs.Common.{◌≡◌, refl, ℕ, ◌+◌, Bool, true, false, cond, not, ◌==◌, List, [], ◌∷◌, ◌++◌, length, Option, Some, None, IsSome, is_some, option_map, option_to_list, ◌&&◌, ap, sym, subst, ◌∙◌, arith, length-append}
 use Rattle.std.proofs.lemmas.Bool.{cond-true, cond-false}
 use Rattle.std.proofs.lemmas.List.Elements.{filter-append}
 use Rattle.std.specs.List.{IsDistinct}
@@ -10,7 +10,6 @@ use Rattle.moka_parts.specs.Exact.{IsWithin}
 use Rattle.moka_parts.proofs.AccessList.{absent_taken_out, counted-to_back}
 use Rattle.moka_parts.proofs.Counting.{front_once}
 use Rattle.moka_parts.proofs.Maps.{itself_tested, same_by_test}
-use Rattle.moka_maintenance.proofs.Stepped.{length-on}
 
 -- where the capacity is not exceeded, the list is within it
 pub within-not_over : (capacity : Option ℕ) (xs : List Member) → is_over capacity xs ≡ false → IsWithin capacity xs
@@ -42,10 +41,10 @@ front_of n (a ∷ xs) once e =
     }
 
 -- a removal makes the list shorter by one
-pub length-without : (n : ℕ) (xs : List Member) → IsDistinct (◌==◌) (numbers_of xs) → is_member n xs ≡ true → length (without_member n xs) + 1 ≡ length xs
+length-taken_out : (n : ℕ) (xs : List Member) → IsDistinct (◌==◌) (numbers_of xs) → is_member n xs ≡ true → length (without_member n xs) + 1 ≡ length xs
 unfolding IsDistinct
-length-without n [] once there = cc
-length-without n (a ∷ xs) once there = go (a.number == n) refl (length-without n xs once.1) there
+length-taken_out n [] once there = cc
+length-taken_out n (a ∷ xs) once there = go (a.number == n) refl (length-taken_out n xs once.1) there
   where
     go : (b : Bool) → (a.number == n) ≡ b → (is_member n xs ≡ true → length (without_member n xs) + 1 ≡ length xs) → is_some (cond b (Some a.counted) (counted_of n xs)) ≡ true → length (cond (not b) (a ∷ without_member n xs) (without_member n xs)) + 1 ≡ length (a ∷ xs)
     go true e later there = let out = ap length (absent_taken_out n xs (subst (λ k. counted_of k xs ≡ None) (same_by_test a.number n e) (front_once a xs once))) in omega arith
@@ -58,8 +57,8 @@ length-to_back n xs once there = go (counted_of n xs) refl there
     go : (o : Option ℕ) → counted_of n xs ≡ o → is_some o ≡ true → length (to_back n xs) ≡ length xs
     go None e is = cc
     go (Some w) e is =
-        let less = length-without n xs once there in
-        let plus = ap (λ o. length (without_member n xs ++ option_to_list (option_map (member n) o))) e ∙ length-on (without_member n xs) (member n w ∷ []) in
+        let less = length-taken_out n xs once there in
+        let plus = ap (λ o. length (without_member n xs ++ option_to_list (option_map (member n) o))) e ∙ length-append (without_member n xs) (member n w ∷ []) in
         omega arith
 
 -- ---- settled members
@@ -72,28 +71,21 @@ module _ {K V : Type 0} (records : Records K V) where
   pub settled-pushed : (xs : List Member) (a : Member) → settled_members records xs ≡ [] → is_settled records a.number ≡ false → settled_members records (xs ++ a ∷ []) ≡ []
   settled-pushed xs a none is = settled-append xs (a ∷ []) ∙ ap (λ ys. ys ++ settled_members records (a ∷ [])) none ∙ cond-false (is_settled records a.number) (a ∷ []) [] is
 
-  -- those behind the front
-  pub settled-behind : (a : Member) (xs : List Member) → settled_members records (a ∷ xs) ≡ [] → settled_members records xs ≡ []
-  settled-behind a xs none = go (is_settled records a.number) none
+  -- where none is settled, the front is not, nor is one of those behind it
+  pub none_front : (a : Member) (xs : List Member) → settled_members records (a ∷ xs) ≡ [] → (is_settled records a.number ≡ false) × (settled_members records xs ≡ [])
+  none_front a xs none = go (is_settled records a.number) refl none
     where
-      go : (b : Bool) → cond b (a ∷ settled_members records xs) (settled_members records xs) ≡ [] → settled_members records xs ≡ []
-      go true none = cc
-      go false none = none
-
-  pub first_unsettled : (a : Member) (xs : List Member) → settled_members records (a ∷ xs) ≡ [] → is_settled records a.number ≡ false
-  first_unsettled a xs none = go (is_settled records a.number) refl none
-    where
-      go : (b : Bool) → is_settled records a.number ≡ b → cond b (a ∷ settled_members records xs) (settled_members records xs) ≡ [] → is_settled records a.number ≡ false
+      go : (b : Bool) → is_settled records a.number ≡ b → cond b (a ∷ settled_members records xs) (settled_members records xs) ≡ [] → (is_settled records a.number ≡ false) × (settled_members records xs ≡ [])
       go true e none = cc
-      go false e none = e
+      go false e none = (e, none)
 
   -- where none is settled, a member is not
   pub none_settled : (n : ℕ) (xs : List Member) → settled_members records xs ≡ [] → is_member n xs ≡ true → is_settled records n ≡ false
   none_settled n [] none there = cc
-  none_settled n (a ∷ xs) none there = go (none_settled n xs (settled-behind a xs none)) (a.number == n) refl there
+  none_settled n (a ∷ xs) none there = go (none_settled n xs (none_front a xs none).1) (a.number == n) refl there
     where
       go : (is_member n xs ≡ true → is_settled records n ≡ false) → (b : Bool) → (a.number == n) ≡ b → is_some (cond b (Some a.counted) (counted_of n xs)) ≡ true → is_settled records n ≡ false
-      go behind true same there = ap (is_settled records) (sym (same_by_test a.number n same)) ∙ first_unsettled a xs none
+      go behind true same there = ap (is_settled records) (sym (same_by_test a.number n same)) ∙ (none_front a xs none).0
       go behind false other there = behind there
 
   -- and where each is not, none is settled

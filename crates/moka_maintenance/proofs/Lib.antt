@@ -1,32 +1,25 @@
 pub mod Popped
+pub mod Listed
 pub mod Placed
 pub mod Told
 pub mod Fates
-pub mod Entered
-pub mod Compared
-pub mod AllApplied
 pub mod Stepped
 pub mod Seen
 pub mod Timing
 pub mod Upkeep
-pub mod Enabled
 pub mod Fronts
-mod Halves
+mod WritesApplied
 mod ReadsApplied
-pub mod Walk
 pub mod Walking
-pub mod Expelling
-pub mod Rows
 pub mod Sweeping
 pub mod Expiring
 pub mod Grounded
 pub mod PassSteps
-pub mod Clocked
 pub mod Passing
 pub mod Fewer
 pub mod Promises
 pub mod Dropping
 pub mod Walked
-pub mod Turning
 pub mod Rounds
+pub mod ScanEnds
 pub mod Scanned

@@ -1,19 +1,15 @@
 -- Which rows stay when a record changes, leaves, or its number goes.
-use Rattle.std.proofs.Common.{◌≡◌, ◌≢◌, ℕ, List, [], ◌∷◌, Option, Some, None, inl, inr, sym, ap, ◌∙◌, subst, refl, arith, IsSome}
+use Rattle.std.proofs.Common.{◌≡◌, ◌≢◌, ℕ, Option, Some, None, inl, inr, sym, ap, ◌∙◌, subst, refl, IsSome}
 use Rattle.std.proofs.lemmas.Bool.{cases_eq}
 use Rattle.std.specs.FinMap.{FinMap, get, insert, remove}
 use Rattle.std.specs.Ordering.{nat_cmp}
-use Rattle.moka_parts.specs.declared.records.Operation.{Operation}
 use Rattle.moka_parts.specs.declared.records.Operation.TheVariants.{Removal}
-use Rattle.moka_parts.specs.declared.records.Ticketed.{Ticketed}
-use Rattle.moka_parts.specs.declared.records.Record.{Record}
 use Rattle.moka_parts.specs.Settling.{number_of}
 use Rattle.moka_store.specs.Store.{Kept}
 use Rattle.moka_store.proofs.Gets.{get-inserted, get-past_insert, get-past_remove, after_remove}
 use Rattle.moka_maintenance.specs.Queued.{IsAt}
 use Rattle.moka_maintenance.specs.Steps.{AddsNoPlace, LeavesNoRow}
-use Rattle.moka_maintenance.specs.Queues.{LeavesNoRowAfter, LeavesNoRowBy}
-use Rattle.moka_maintenance.proofs.Popped.{first_or_rest}
+use Rattle.moka_maintenance.specs.Queues.{LeavesNoRowAfter}
 
 module _ {X : Type 0} where
   -- what is missing after an insertion was missing before
@@ -28,10 +24,6 @@ module _ {X : Type 0} where
   none_removed m n k ne h = sym (get-past_remove m n k ne) ∙ h
 
 module _ {K V : Type 0} where
-  -- a record that changes keeps its row
-  pub rows-changed : {S : Type 0} → (old new : Kept K V S) (n : ℕ) (r : Record K V) → new.records ≡ insert old.records n r → LeavesNoRow old new
-  rows-changed old new n r is k p at gone = none_inserted old.records n r k (sym (ap (λ m. get m k) is) ∙ gone)
-
   -- the row goes with the record
   pub rows-gone : {S : Type 0} → (old new : Kept K V S) (n : ℕ) → new.records ≡ remove old.records n → new.places ≡ remove old.places n → LeavesNoRow old new
   rows-gone old new n records places k p at gone =
@@ -60,22 +52,6 @@ module _ {K V : Type 0} where
     rows-forgotten same places k p at gone =
         let other = (after_remove old.places n k p (sym (ap (λ m. get m k) places) ∙ at)).0 in
         (sym (ap (λ m. get m k) same) ∙ gone, λ _ e. other (sym (ap number_of e)))
-
-  -- no operation
-  pub rows-none : {S : Type 0} → (k : Kept K V S) → LeavesNoRowBy [] k k
-  rows-none k n p at gone = (gone, λ _ _ there. (let lt = there.1 in omega arith))
-
-  -- one operation and then others
-  pub rows-then : {S : Type 0} → (a b c : Kept K V S) (o : Operation) (ticket : ℕ) (os : List Ticketed) → AddsNoPlace b c → LeavesNoRowAfter o a b → LeavesNoRowBy os b c → LeavesNoRowBy (record { ticket = ticket; operation = o } ∷ os) a c
-  rows-then a b c o ticket os kept first then n p at gone =
-      let later = then n p at gone in
-      let before = first n p (kept n p at) later.0 in (
-        before.0,
-        λ t g there. elim (first_or_rest _ _ os there) [
-          | inl same ↦ before.1 g (ap (λ (x : Ticketed). x.operation) same)
-          | inr behind ↦ later.1 t g behind
-        ],
-      )
 
 -- a number whose row is not at its place has none, and so is no member and has no record
 pub no_row : {X : Type 0} (places : FinMap nat_cmp ℕ) (n place : ℕ) (o : Option X) → IsAt places n place → (IsSome o → IsSome (get places n)) → (get places n ≡ Some place → ⊥) → o ≡ None

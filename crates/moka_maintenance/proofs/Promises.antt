@@ -1,9 +1,9 @@
 -- What applying the queues and the passes make of a state is a run of the reference cache that keeps its promises.
-use Rattle.std.proofs.Common.{◌≡◌, refl, ℕ, ◌+◌, ◌-◌, ◌*◌, ◌/◌, ◌<◌, ◌≤◌, ◌++◌, Bool, true, false, true≢false, not, ◌==◌, ◌&&◌, ◌||◌, List, [], ◌∷◌, length, ◌⊎◌, inl, inr, Option, Some, None, is_some, ap, sym, subst, ◌∙◌, arith, append-nil, append_assoc, eqb→eq, if◌then◌else◌}
+use Rattle.std.proofs.Common.{◌≡◌, refl, ℕ, ◌+◌, ◌-◌, ◌*◌, ◌/◌, ◌<◌, ◌≤◌, ◌++◌, Bool, true, false, true≢false, not, ◌==◌, ◌&&◌, ◌||◌, List, [], ◌∷◌, length, ◌⊎◌, inl, inr, Option, Some, None, is_some, ap, sym, subst, ◌∙◌, arith, append-nil, append_assoc, eqb→eq, if◌then◌else◌, length-append}
 use Rattle.std.proofs.lemmas.Bool.{or_right}
 use Rattle.std.specs.Bool.{passes}
 use Rattle.std.specs.Prelude.{Contains, take}
-use Rattle.std.specs.List.{list_all, list_any}
+use Rattle.std.specs.List.{list_any}
 use Rattle.std.specs.Duration.{as_nanos}
 use Rattle.std.specs.FinMap.{get, len}
 use Rattle.moka_parts.specs.declared.notification.RemovalCause.{RemovalCause}
@@ -13,14 +13,14 @@ use Rattle.moka_parts.specs.declared.records.Member.{Member}
 use Rattle.moka_parts.specs.declared.records.Registered.{Registered}
 use Rattle.moka_parts.specs.declared.records.Operation.{Operation}
 use Rattle.moka_parts.specs.declared.records.Operation.TheVariants.{Upsert}
-use Rattle.moka_parts.specs.Visibility.{SomeCovers, is_expired}
+use Rattle.moka_parts.specs.Visibility.{NoneCovers, SomeCovers, is_expired}
 use Rattle.moka_parts.specs.Records.{Records, when_listening, is_applied, is_settled, is_member, counted_of, numbers_of, settled_members, total_weight}
 use Rattle.moka_parts.specs.State.{State, Contents, with_contents, is_disabled, keeps_write_list}
 use Rattle.moka_parts.specs.Surroundings.{Heard}
 use Rattle.moka_parts.specs.Writes.{left_by_writes}
 use Rattle.moka_parts.specs.Candidates.{prefix}
 use Rattle.moka_parts.specs.Maintenance as parts
-use Rattle.moka_parts.specs.Maintenance.{Choice, Terms, Course, Freedom, after_choices, left_by_choices, after_queued_reads, before_steps, at_end, after_run, left_in_run, is_over, is_cut, is_late, is_timed, tests_of, kept_by_choices, AreJustified, AreFree}
+use Rattle.moka_parts.specs.Maintenance.{Choice, Terms, Course, Freedom, after_choices, left_by_choices, after_queued_reads, before_steps, at_end, after_run, left_in_run, is_over, is_cut, is_late, is_timed, tests_of, kept_by_choices, AreJustified, AreFree, with_sketch}
 use Rattle.moka_parts.specs.Bounds.{removed_by, IsPlainSurplus, EndsSweep, IsBounded}
 use Rattle.moka_parts.specs.Exact.{IsExact, IsWithin}
 use Rattle.moka_parts.specs.Settling.{IsAllSent, IsWaitingIn, IsWhole, IsConsistent, IsConsistentState, IsSound, IsValid, LeavesBehind, NeverRenewsOnRead, Settles, leaves_more_idle}
@@ -42,16 +42,17 @@ use Rattle.moka_maintenance.specs.declared.sweep.Tests.{Tests}
 use Rattle.moka_maintenance.specs.declared.sweep.Sweep.{Sweep}
 use Rattle.moka_maintenance.specs.declared.sweep.Sweep.TheVariants.{Written, Read, Surplus}
 use Rattle.moka_maintenance.specs.Steps.{Stock, after_steps, MayLeave, MayRun, MayAll, HasUnsettled, Told, makes_room}
-use Rattle.moka_maintenance.specs.Queues.{ArePrepared}
+use Rattle.moka_maintenance.specs.Queues.{ArePrepared, AreApplied}
 use Rattle.moka_maintenance.specs.Sweeps.{tests_in, sweeps_writes, IsAtRest, IsDone}
-use Rattle.moka_maintenance.specs.Passes.{IsRan}
+use Rattle.moka_maintenance.specs.Passes.{IsRan, HasSwept}
 use Rattle.moka_maintenance.proofs.Told.{told_same, told-on}
 use Rattle.moka_maintenance.proofs.Dropping.{choices-append, drops_remove_none, drops_silent, drops_stay, drops_unlisted, gone-append, kept-append, written-append}
 use Rattle.moka_maintenance.proofs.Fewer.{len-fewer}
-use Rattle.moka_maintenance.proofs.Grounded.{grounds-sketched}
 use Rattle.moka_maintenance.proofs.Scanned.{drops_later, justified-append, nothing_kept}
-use Rattle.moka_maintenance.proofs.Stepped.{length-on, may-also, may-second, run_leaves, steps-append, unsettled-steps}
+use Rattle.moka_maintenance.proofs.Stepped.{may-also, may-second, run_leaves, steps-append, unsettled-steps}
 use Rattle.moka_maintenance.proofs.Seen.{stock_of, steps-seen, led-seen, listed-seen, left-seen, steps_justified, steps_keep_predicates}
+use Rattle.moka_maintenance.proofs.Grounded.{grounds-also}
+use Rattle.moka_maintenance.proofs.PassSteps.{both_make_room}
 
 -- ---- small facts
 
@@ -79,15 +80,10 @@ record_settled Waits none k r (Some w) s = (refl, same_by_order r.applied r.gene
 joined : (live idle invalid over a b c d : Bool) → live ≡ a → idle ≡ b → invalid ≡ c → over ≡ d → ((live || idle || invalid) || over) ≡ (a || b || c || d)
 joined live idle invalid over a b c d e f g h = rw (e, f, g, h) refl
 
--- late by the limit of a run that has one only where a listener is set
-late_where_listening : (b : Bool) (limit : Option ℕ) (readings : List Instant) → (b && is_late limit readings) ≡ is_late (if b then limit else None) readings
-late_where_listening true limit readings = refl
-late_where_listening false limit readings = refl
-
--- the same of whether it has one
-limited_where_listening : (b : Bool) (limit : Option ℕ) → (b && is_some limit) ≡ is_some (if b then limit else None)
-limited_where_listening true limit = refl
-limited_where_listening false limit = refl
+-- what is told by the limit of a run that has one only where a listener is set
+where_listening : (test : Option ℕ → Bool) → test None ≡ false → (b : Bool) (limit : Option ℕ) → (b && test limit) ≡ test (if b then limit else None)
+where_listening test none true limit = refl
+where_listening test none false limit = sym none
 
 -- where no member is settled, none is found
 no_settled : {K V : Type 0} (records : Records K V) (access : List Member) → settled_members records access ≡ [] → list_any (λ a. is_settled records a.number) access ≡ false
@@ -97,15 +93,6 @@ no_settled records (a ∷ access) none = go (is_settled records a.number) none (
     go : (b : Bool) → (if b then a ∷ settled_members records access else settled_members records access) ≡ [] → (settled_members records access ≡ [] → list_any (λ a. is_settled records a.number) access ≡ false) → (b || list_any (λ a. is_settled records a.number) access) ≡ false
     go true none later = cc
     go false none later = later none
-
--- what holds of all of two lists joined
-all_before : {A : Type 0} (test : A → Bool) (xs ys : List A) → list_all test (xs ++ ys) ≡ true → list_all test xs ≡ true
-all_before test [] ys all = refl
-all_before test (x ∷ xs) ys all = go (test x) all (all_before test xs ys)
-  where
-    go : (b : Bool) → (b && list_all test (xs ++ ys)) ≡ true → (list_all test (xs ++ ys) ≡ true → list_all test xs ≡ true) → (b && list_all test xs) ≡ true
-    go true all later = later all
-    go false all later = cc
 
 -- whether predicates cover records is the same with another sketch
 drops_sketched : {K V P : Type 0} (says : P → K → V → Bool → Type 0) (q : parts.Tests) (c d : Contents K V) → c.records ≡ d.records → (ps : List (Registered P)) (xs : List Choice) → AreDrops xs → AreJustified says q c ps xs → AreJustified says q d ps xs
@@ -120,15 +107,33 @@ pub record IsSimple {K V X P W : Type 0} (s : State K V X P W) : Type 0 where
   pub unsupported : s.settings.invalidator ≡ false → s.predicates ≡ []
   pub consistent : IsConsistentState s
 
-module _ {K V X P W L C : Type 0} {tells : L → K → V → RemovalCause → L → Type 0} {reads : C → Instant → C → Type 0} (s : State K V X P W) (simple : IsSimple s) (terms : Terms) (q : Tests) (by_state : tests_in q ≡ tests_of s terms.now)
-    {c d : Contents K V} {ns ms ks : List ℕ} {l m n : Option L} (applied : ArePrepared tells s.capacity s.settings.policy (keeps_write_list s.settings) (is_some s.settings.weigher) (after_queued_reads s) c ns ms s.writes l m)
-    {clock clock_after : C} {passes : ℕ} {left : Bool} {says : P → K → V → Bool → Type 0} {qs : List (Registered P)} (sketched : d.sketch ≡ c.sketch) (ran : IsRan tells says q reads (if s.settings.listening then terms.limit else None) terms.batch (keeps_write_list s.settings) s.predicates qs (stock_of c ms) (stock_of d ks) m n clock clock_after passes left) where
+module _ {K V X P W L C : Type 0} {tells : L → K → V → RemovalCause → L → Type 0} {reads : C → Instant → C → Type 0} (s : State K V X P W) (simple : IsSimple s) (terms : Terms) {q : Tests} (by_state : tests_in q ≡ tests_of s terms.now)
+    {b c d : Contents K V} {ordered : Bool} (kept : ordered ≡ keeps_write_list s.settings) {ns ms ks : List ℕ} {l m n : Option L} (begins : b ≡ after_queued_reads s) (prepared_with : ArePrepared tells s.capacity s.settings.policy ordered (is_some s.settings.weigher) b c ns ms s.writes l m)
+    {says : P → K → V → Bool → Type 0} {qs : List (Registered P)} {limit : Option ℕ} {batch : ℕ} {clock clock_after : C} {passes : ℕ} {left : Bool} (limited : limit ≡ (if s.settings.listening then terms.limit else None)) (batched : batch ≡ terms.batch) (sketched : d.sketch ≡ c.sketch)
+    (ran_by : IsRan tells says q reads limit batch ordered s.predicates qs (stock_of c ms) (stock_of d ks) m n clock clock_after passes left) where
+  -- the premises in terms of the state
+  prepared : ArePrepared tells s.capacity s.settings.policy (keeps_write_list s.settings) (is_some s.settings.weigher) (after_queued_reads s) c ns ms s.writes l m
+  prepared =
+      subst (λ o. ArePrepared tells s.capacity s.settings.policy o (is_some s.settings.weigher) (after_queued_reads s) c ns ms s.writes l m) kept
+      (subst (λ b. ArePrepared tells s.capacity s.settings.policy ordered (is_some s.settings.weigher) b c ns ms s.writes l m) begins prepared_with)
+
+  abbrev applied : AreApplied tells s.capacity s.settings.policy (keeps_write_list s.settings) (after_queued_reads s) prepared.between ns ms s.writes l m
+  applied = prepared.applied
+
+  abbrev limit_here : Option ℕ
+  limit_here = if s.settings.listening then terms.limit else None
+
+  ran : IsRan tells says q reads limit_here terms.batch (keeps_write_list s.settings) s.predicates qs (stock_of c ms) (stock_of d ks) m n clock clock_after passes left
+  ran =
+      subst (λ o. IsRan tells says q reads limit_here terms.batch o s.predicates qs (stock_of c ms) (stock_of d ks) m n clock clock_after passes left) kept
+      (subst (λ o. IsRan tells says q reads o terms.batch ordered s.predicates qs (stock_of c ms) (stock_of d ks) m n clock clock_after passes left) limited (subst (λ k. IsRan tells says q reads limit k ordered s.predicates qs (stock_of c ms) (stock_of d ks) m n clock clock_after passes left) batched ran_by))
+
   -- what the run chose
-  abbrev pub choices : Freedom
-  choices = record { moves = applied.moves; is_short = applied.is_short; steps = ran.by.steps ++ ran.dropped.steps }
+  abbrev choices : Freedom
+  choices = record { moves = applied.moves; is_short = prepared.is_short; steps = ran.by.steps ++ ran.dropped.steps }
 
   -- how it went
-  abbrev pub course : Course
+  abbrev course : Course
   course = record { answer = left; readings = ran.readings; passes = passes }
 
   -- the state that it leaves
@@ -136,7 +141,7 @@ module _ {K V X P W L C : Type 0} {tells : L → K → V → RemovalCause → L 
   left_state = with_contents s d qs
 
   before_same : before_steps s choices ≡ c
-  before_same = sym applied.led
+  before_same = sym (prepared.enabled ∙ ap (with_sketch s.capacity s.settings.policy (is_some s.settings.weigher) prepared.is_short) applied.led)
 
   end_same : at_end s choices ≡ d
   end_same =
@@ -153,32 +158,39 @@ module _ {K V X P W L C : Type 0} {tells : L → K → V → RemovalCause → L 
   removed_same = removed_by_append ran.by.steps ran.dropped.steps ∙ ap (λ ns. removed_by ran.by.steps ++ ns) (drops_remove_none ran.dropped.steps ran.dropped.drops) ∙ append-nil (removed_by ran.by.steps)
 
   -- it is the reference cache's
-  pub run_same : after_run s choices ≡ left_state
+  run_same : after_run s choices ≡ left_state
   run_same = ap (with_contents s (at_end s choices)) kept_same ∙ ap (λ c. with_contents s c qs) end_same
 
   -- afterwards only what was not sent waits
-  pub end_consistent : IsConsistentState left_state
+  end_consistent : IsConsistentState left_state
   end_consistent = subst IsConsistentState run_same (run_kept s choices simple.consistent)
 
   -- the state is as valid as before
-  pub end_valid : (eq : K → K → Bool) → IsValid eq s → IsValid eq left_state
-  end_valid eq valid = subst (IsValid eq) run_same (run_valid eq s choices simple.enabled valid)
+  pub run_leaves_valid : (eq : K → K → Bool) → IsValid eq s → IsValid eq left_state
+  run_leaves_valid eq valid = subst (IsValid eq) run_same (run_valid eq s choices simple.enabled valid)
 
   -- where no record has an expiry of its own, none has one
-  pub end_lasting : ((k : ℕ) (r : Record K V) → get s.records k ≡ Some r → r.expires ≡ None) → (k : ℕ) (r : Record K V) → get d.records k ≡ Some r → r.expires ≡ None
-  end_lasting lasting k r there =
+  pub run_leaves_lasting : ((k : ℕ) (r : Record K V) → get s.records k ≡ Some r → r.expires ≡ None) → (k : ℕ) (r : Record K V) → get d.records k ≡ Some r → r.expires ≡ None
+  run_leaves_lasting lasting k r there =
       let old = run_keeps s choices k r (ap (λ (c : Contents K V). get c.records k) end_same ∙ there) in
       ap (λ (q : Record K V). q.expires) {y = record old.0 { applied = old.2.0 }} old.2.1 ∙ lasting k old.0 old.1
 
   -- once everything was sent, the report is exact, whatever the batch
-  pub end_exact : IsAllSent s → IsExact left_state
-  end_exact all = subst IsExact run_same (run_is_exact s choices simple.consistent all)
+  pub run_leaves_exact : IsAllSent s → IsExact left_state
+  run_leaves_exact all = subst IsExact run_same (run_is_exact s choices simple.consistent all)
 
-  cut_late : is_cut s.settings terms course ≡ is_late (if s.settings.listening then terms.limit else None) ran.readings
-  cut_late = late_where_listening s.settings.listening terms.limit ran.readings
+  cut_late : is_cut s.settings terms course ≡ is_late limit_here ran.readings
+  cut_late = where_listening (λ o. is_late o ran.readings) refl s.settings.listening terms.limit
 
-  timed_limited : is_timed s.settings terms ≡ is_some (if s.settings.listening then terms.limit else None)
-  timed_limited = limited_where_listening s.settings.listening terms.limit
+  timed_limited : is_timed s.settings terms ≡ is_some limit_here
+  timed_limited = where_listening is_some refl s.settings.listening terms.limit
+
+  -- the run was not cut, and makes steps
+  abbrev IsUncut : Type 0
+  IsUncut = (is_late limit_here ran.readings ≡ false) × (1 ≤ terms.batch)
+
+  uncut : IsWhole s terms course → IsUncut
+  uncut whole = (sym cut_late ∙ whole.0, whole.1)
 
   -- where a predicate is left, they are supported, and the order of writing is kept
   order_kept : 0 < length qs → keeps_write_list s.settings ≡ true
@@ -226,8 +238,8 @@ module _ {K V X P W L C : Type 0} {tells : L → K → V → RemovalCause → L 
   none_unsettled all some = true≢false (sym (all_settled (IsWaitingIn s.outstanding []) d.records d.access end_consistent (nothing_waits s.outstanding all) some.number some.is_in) ∙ some.unsettled)
 
   -- and each record is a settled member
-  pub each_settled : IsAllSent s → (k : ℕ) (r : Record K V) → get d.records k ≡ Some r → (is_member k d.access ≡ true) × (is_applied r ≡ true)
-  each_settled all k r there = record_settled (IsWaitingIn s.outstanding []) (nothing_waits s.outstanding all) k r (counted_of k d.access) (subst (λ o. IsSound (IsWaitingIn s.outstanding []) k o (counted_of k d.access)) there (end_consistent.sound k))
+  pub run_settles_each : IsAllSent s → (k : ℕ) (r : Record K V) → get d.records k ≡ Some r → (is_member k d.access ≡ true) × (is_applied r ≡ true)
+  run_settles_each all k r there = record_settled (IsWaitingIn s.outstanding []) (nothing_waits s.outstanding all) k r (counted_of k d.access) (subst (λ o. IsSound (IsWaitingIn s.outstanding []) k o (counted_of k d.access)) there (end_consistent.sound k))
 
   -- ---- the write list
 
@@ -237,7 +249,7 @@ module _ {K V X P W L C : Type 0} {tells : L → K → V → RemovalCause → L 
   list_after : keeps_write_list s.settings ≡ true → ks ≡ write_list_at_end s ns choices
   list_after kept =
       listed-seen c d ms ks ran.by.steps ran.by.led ∙ ap (λ xs. written_after_choices xs ran.by.steps) (list_before kept)
-      ∙ sym (drops_unlisted ran.dropped.steps ran.dropped.drops (written_after_choices (write_list_before_steps s ns choices) ran.by.steps)) ∙ sym (written-append (write_list_before_steps s ns choices) ran.by.steps ran.dropped.steps)
+      ∙ sym (drops_unlisted (written_after_choices (write_list_before_steps s ns choices) ran.by.steps) ran.dropped.steps ran.dropped.drops) ∙ sym (written-append (write_list_before_steps s ns choices) ran.by.steps ran.dropped.steps)
 
   -- a sweep of the last pass stands after some of the run's steps, and unsettled members do not end it
   split_all : (first second : List Choice) → ran.by.steps ≡ first ++ second → ran.by.steps ++ ran.dropped.steps ≡ first ++ (second ++ ran.dropped.steps)
@@ -256,32 +268,29 @@ module _ {K V X P W L C : Type 0} {tells : L → K → V → RemovalCause → L 
       none_unsettled all (subst (λ e. HasUnsettled e) same last)
 
   -- where the sweep of the last pass ended, as the reference cache tells it
-  ended : (sweep : Sweep) (Rests : Contents K V → Type 0) (first second : List Choice) → ran.by.steps ≡ first ++ second
-      → (IsAtRest q sweep (after_steps (stock_of c ms) first) → Rests (after_choices (before_steps s choices) first))
-      → IsDone q sweep terms.batch (length first) (after_steps (stock_of c ms) first) → (s.predicates ≡ [] → IsDone q sweep (passes * terms.batch) (length first) (after_steps (stock_of c ms) first))
-      → (is_late (if s.settings.listening then terms.limit else None) ran.readings ≡ false → 1 ≤ terms.batch → HasUnsettled (after_steps (stock_of c ms) first) ⊎ IsAtRest q sweep (after_steps (stock_of c ms) first))
-      → EndsSweep s terms course Rests (after_choices (before_steps s choices) first) (length first)
-  ended sweep Rests first second split rests once each whole_rest = record {
-    used = spent terms.batch once;
+  ended : (sweep : Sweep) (Rests : Contents K V → Type 0) (at : HasSwept q sweep terms.batch (stock_of c ms) ran.by.steps IsUncut) → (IsAtRest q sweep (after_steps (stock_of c ms) at.first) → Rests (after_choices (before_steps s choices) at.first))
+      → (s.predicates ≡ [] → IsDone q sweep (passes * terms.batch) (length at.first) (after_steps (stock_of c ms) at.first)) → EndsSweep s terms course Rests (after_choices (before_steps s choices) at.first) (length at.first)
+  ended sweep Rests at rests each = record {
+    used = spent terms.batch at.done;
     all_used = λ none. spent (passes * terms.batch) (each none);
-    rest = λ whole settled. elim (whole_rest (sym cut_late ∙ whole.0) whole.1) [
+    rest = λ whole settled. elim (at.rest (uncut whole)) [
       | inl some ↦ absurd (none_left some settled)
       | inr rest ↦ rests rest
     ];
   }
     where
       after : Contents K V
-      after = after_choices (before_steps s choices) first
+      after = after_choices (before_steps s choices) at.first
 
-      spent : (turns : ℕ) → IsDone q sweep turns (length first) (after_steps (stock_of c ms) first) → Rests after ⊎ ((settled_members after.records after.access ≡ []) ⊎ (turns ≤ length first))
+      spent : (turns : ℕ) → IsDone q sweep turns (length at.first) (after_steps (stock_of c ms) at.first) → Rests after ⊎ ((settled_members after.records after.access ≡ []) ⊎ (turns ≤ length at.first))
       spent turns (inl stopped) = inl (rests stopped.0)
-      spent turns (inr (inl none)) = inr (inl (subst (λ (e : Stock K V). settled_members e.contents.records e.contents.access ≡ []) (sym (seen_after first)) none))
+      spent turns (inr (inl none)) = inr (inl (subst (λ (e : Stock K V). settled_members e.contents.records e.contents.access ≡ []) (sym (seen_after at.first)) none))
       spent turns (inr (inr all)) = inr (inr all)
 
-      none_left : HasUnsettled (after_steps (stock_of c ms) first) → IsAllSent s ⊎ (list_any (λ a. not (is_settled after.records a.number)) after.access ≡ false) → ⊥
-      none_left some (inl all) = none_between all first second split some
+      none_left : HasUnsettled (after_steps (stock_of c ms) at.first) → IsAllSent s ⊎ (list_any (λ a. not (is_settled after.records a.number)) after.access ≡ false) → ⊥
+      none_left some (inl all) = none_between all at.first at.second at.split some
       none_left some (inr none) =
-          let there = subst (λ (e : Stock K V). HasUnsettled e) (sym (seen_after first)) some in
+          let there = subst (λ (e : Stock K V). HasUnsettled e) (sym (seen_after at.first)) some in
           true≢false (sym (some_unsettled after.records after.access there.number there.is_in there.unsettled) ∙ none)
 
   -- it came to rest by the write list
@@ -294,9 +303,9 @@ module _ {K V X P W L C : Type 0} {tells : L → K → V → RemovalCause → L 
   comes_to_rest : IsWhole s terms course → IsAllSent s → keeps_write_list s.settings ≡ true → ComesToRest s ns choices terms.now
   comes_to_rest whole all kept =
       let swept = ran.writes_swept in
-      elim (swept.5 (sym cut_late ∙ whole.0) whole.1) [
-        | inl some ↦ absurd (none_between all swept.0 swept.1 swept.2 some)
-        | inr rest ↦ (swept.0, swept.1 ++ ran.dropped.steps, split_all swept.0 swept.1 swept.2, written_front kept swept.0 rest)
+      elim (swept.rest (uncut whole)) [
+        | inl some ↦ absurd (none_between all swept.first swept.second swept.split some)
+        | inr rest ↦ (swept.first, swept.second ++ ran.dropped.steps, split_all swept.first swept.second swept.split, written_front kept swept.first rest)
       ]
 
   -- and where it ended
@@ -304,8 +313,8 @@ module _ {K V X P W L C : Type 0} {tells : L → K → V → RemovalCause → L 
       × EndsSweep s terms course (λ e. IsAtRestByWrite (tests_of s terms.now) e.records (written_after_choices (write_list_before_steps s ns choices) first)) (after_choices (before_steps s choices) first) (length first)
   writes_ended kept =
       let swept = ran.writes_swept in
-      let Rests : Contents K V → Type 0 = λ e. IsAtRestByWrite (tests_of s terms.now) e.records (written_after_choices (write_list_before_steps s ns choices) swept.0) in
-      (swept.0, swept.1 ++ ran.dropped.steps, split_all swept.0 swept.1 swept.2, ended Written Rests swept.0 swept.1 swept.2 (written_front kept swept.0) swept.3 swept.4 swept.5)
+      let Rests : Contents K V → Type 0 = λ e. IsAtRestByWrite (tests_of s terms.now) e.records (written_after_choices (write_list_before_steps s ns choices) swept.first) in
+      (swept.first, swept.second ++ ran.dropped.steps, split_all swept.first swept.second swept.split, ended Written Rests swept (written_front kept swept.first) ran.writes_turned)
 
   -- and by the access list
   read_front : (first : List Choice) → IsAtRest q Read (after_steps (stock_of c ms) first) → IsAtRestByRead (tests_of s terms.now) (after_choices (before_steps s choices) first)
@@ -316,7 +325,7 @@ module _ {K V X P W L C : Type 0} {tells : L → K → V → RemovalCause → L 
   reads_ended : (first second : List Choice) × (ran.by.steps ++ ran.dropped.steps ≡ first ++ second) × EndsSweep s terms course (IsAtRestByRead (tests_of s terms.now)) (after_choices (before_steps s choices) first) (length first)
   reads_ended =
       let swept = ran.reads_swept in
-      (swept.0, swept.1 ++ ran.dropped.steps, split_all swept.0 swept.1 swept.2, ended Read (IsAtRestByRead (tests_of s terms.now)) swept.0 swept.1 swept.2 (read_front swept.0) swept.3 swept.4 swept.5)
+      (swept.first, swept.second ++ ran.dropped.steps, split_all swept.first swept.second swept.split, ended Read (IsAtRestByRead (tests_of s terms.now)) swept (read_front swept.first) ran.reads_turned)
 
   -- the surplus is swept last, and dropping predicates changes nothing of it
   surplus_ended : EndsSweep s terms course (λ e. IsWithin s.capacity e.access) (at_end s choices) (length (ran.by.steps ++ ran.dropped.steps))
@@ -332,7 +341,7 @@ module _ {K V X P W L C : Type 0} {tells : L → K → V → RemovalCause → L 
       spent : (turns : ℕ) → IsDone q Surplus turns (length ran.by.steps) (stock_of d ks) → IsWithin s.capacity (at_end s choices).access ⊎ ((settled_members (at_end s choices).records (at_end s choices).access ≡ []) ⊎ (turns ≤ length (ran.by.steps ++ ran.dropped.steps)))
       spent turns (inl stopped) = inl (subst (λ (e : Contents K V). IsWithin s.capacity e.access) (sym end_same) (subst (λ o. IsWithin o d.access) same_capacity stopped.0))
       spent turns (inr (inl none)) = inr (inl (subst (λ (e : Contents K V). settled_members e.records e.access ≡ []) (sym end_same) none))
-      spent turns (inr (inr all)) = inr (inr (let both = length-on ran.by.steps ran.dropped.steps in omega arith))
+      spent turns (inr (inr all)) = inr (inr (let both = length-append ran.by.steps ran.dropped.steps in omega arith))
 
       none_left : HasUnsettled (stock_of d ks) → IsAllSent s ⊎ (list_any (λ a. not (is_settled (at_end s choices).records a.number)) (at_end s choices).access ≡ false) → ⊥
       none_left some (inl all) = none_unsettled all some
@@ -357,7 +366,7 @@ module _ {K V X P W L C : Type 0} {tells : L → K → V → RemovalCause → L 
 
     -- once everything was sent, the steps begin with settled members alone
     abbrev begun : Freedom
-    begun = record { moves = applied.moves; is_short = applied.is_short; steps = [] }
+    begun = record { moves = applied.moves; is_short = prepared.is_short; steps = [] }
 
     begun_consistent : IsConsistent (IsWaitingIn s.outstanding []) c.records c.access
     begun_consistent = subst (λ (e : Contents K V). IsConsistent (IsWaitingIn s.outstanding []) e.records e.access) before_same (run_kept s begun simple.consistent)
@@ -380,7 +389,7 @@ module _ {K V X P W L C : Type 0} {tells : L → K → V → RemovalCause → L 
 
     settles : Settles says read s terms course left_state
     settles = record {
-      exact = λ whole all. end_exact all;
+      exact = λ whole all. run_leaves_exact all;
       within = λ whole all. elim (at_rest whole) [ inl some ↦ absurd (none_unsettled all some) | inr within ↦ within ];
       expired = λ whole all never k r there. lasts all never k r there;
       predicates = λ whole all enabled supported enough. no_predicate all supported enough;
@@ -403,20 +412,21 @@ module _ {K V X P W L C : Type 0} {tells : L → K → V → RemovalCause → L 
       first_batch : is_cut s.settings terms course ≡ true → passes ≡ 1 → removed_by (ran.by.steps ++ ran.dropped.steps) ≡ numbers_of (take terms.batch (before_steps s choices).access)
       first_batch cut one =
           removes_first says s terms.now choices capacity terms.batch simple.consistent is_free plain
-          (ap length removed_same ∙ ran.batch_used (sym cut_late ∙ cut) one plain.no_predicate (all_before makes_room ran.by.steps ran.dropped.steps (removes_for_size_alone says s terms.now choices capacity simple.consistent is_free plain makes_room (λ n. refl))))
+          (ap length removed_same ∙ ran.batch_used (sym cut_late ∙ cut) one plain.no_predicate (both_make_room ran.by.steps ran.dropped.steps (removes_for_size_alone says s terms.now choices capacity simple.consistent is_free plain makes_room (λ n. refl))).0)
 
     -- no pass is made for nothing
     all_needed : (capacity : ℕ) → IsPlainSurplus s terms.now capacity (before_steps s choices) → IsWhole s terms course → passes ≡ length (removed_by (ran.by.steps ++ ran.dropped.steps)) / terms.batch + 1
     all_needed capacity plain whole =
         subst (λ ns. passes ≡ length ns / terms.batch + 1) (sym removed_same)
-        (ran.exact (sym cut_late ∙ whole.0) whole.1 plain.no_predicate (all_before makes_room ran.by.steps ran.dropped.steps (removes_for_size_alone says s terms.now choices capacity simple.consistent is_free plain makes_room (λ n. refl))))
+        (ran.exact (sym cut_late ∙ whole.0) whole.1 plain.no_predicate (both_make_room ran.by.steps ran.dropped.steps (removes_for_size_alone says s terms.now choices capacity simple.consistent is_free plain makes_room (λ n. refl))).0)
 
     -- the steps are in order, whatever sketch the contents have
-    ordered : FollowsGrounds (SomeCovers says s.predicates) (tests_of s terms.now) terms.batch (grounds_of passes) (before_steps s choices) ran.by.steps
-    ordered =
-        subst (λ t. FollowsGrounds (SomeCovers says s.predicates) t terms.batch (grounds_of passes) (before_steps s choices) ran.by.steps) by_state
-        (subst (λ b. FollowsGrounds (SomeCovers says s.predicates) (tests_in q) terms.batch (grounds_of passes) b ran.by.steps) (sym before_same)
-        (grounds-sketched (SomeCovers says s.predicates) (tests_in q) terms.batch c.sketch (grounds_of passes) (stock_of c ms).contents ran.by.steps ran.in_order))
+    in_order : FollowsGrounds (SomeCovers says s.predicates) (tests_of s terms.now) (NoneCovers says (kept_by_choices s.predicates ran.dropped.steps)) (keeps_write_list s.settings) terms.batch (grounds_of passes) (before_steps s choices) ran.by.steps
+    in_order =
+        let spared = NoneCovers says (kept_by_choices s.predicates ran.dropped.steps) in
+        subst (λ t. FollowsGrounds (SomeCovers says s.predicates) t spared (keeps_write_list s.settings) terms.batch (grounds_of passes) (before_steps s choices) ran.by.steps) by_state
+        (subst (λ b. FollowsGrounds (SomeCovers says s.predicates) (tests_in q) spared (keeps_write_list s.settings) terms.batch (grounds_of passes) b ran.by.steps) (sym before_same)
+        (grounds-also (SomeCovers says s.predicates) (SomeCovers says s.predicates) (λ r covered. covered) (tests_in q) c.sketch (NoneCovers says qs) spared (λ r none. subst (λ ps. NoneCovers says ps r) ran.dropped.kept none) (keeps_write_list s.settings) terms.batch (grounds_of passes) (stock_of c ms).contents ran.by.steps ran.in_order))
 
     -- no reading but the last is late by the limit given, whether the clock is read at all or not
     ends_by_terms : (b : Bool) → s.settings.listening ≡ b → is_late (if b then terms.limit else None) (take (length ran.readings - 1) ran.readings) ≡ false → is_late terms.limit (take (length ran.readings - 1) ran.readings) ≡ false
@@ -438,8 +448,8 @@ module _ {K V X P W L C : Type 0} {tells : L → K → V → RemovalCause → L 
       timed = λ timed. ran.timed (sym timed_limited ∙ timed) ∙ ap (λ b. passes + (if b then 1 else 0)) (sym cut_late);
       untimed = λ untimed. ran.untimed (sym timed_limited ∙ untimed);
       ends = ends_by_terms s.settings.listening refl ran.ends;
-      in_order = (ran.by.steps, ran.dropped.steps, refl, ran.dropped.drops, ordered);
-      full = λ none. (let full = ran.full none in let both = length-on ran.by.steps ran.dropped.steps in omega arith);
+      in_order = (ran.by.steps, ran.dropped.steps, refl, ran.dropped.drops, in_order);
+      full = λ none. (let full = ran.full none in let both = length-append ran.by.steps ran.dropped.steps in omega arith);
       reads_swept = reads_ended;
       surplus_swept = surplus_ended;
       needed = all_needed;
@@ -448,11 +458,11 @@ module _ {K V X P W L C : Type 0} {tells : L → K → V → RemovalCause → L 
     }
 
     -- the run keeps its promises
-    pub promised : ListedRun says read ns ks s terms course (when_listening s.settings.listening (left_in_run s choices)) left_state
+    promised : ListedRun says read ns ks s terms course (when_listening s.settings.listening (left_in_run s choices)) left_state
     promised = (rw simple.enabled (choices, (is_free, sym run_same, refl), (bounded, leaves_list)), ((leaves, settles), λ off. absurd (true≢false (sym off ∙ simple.enabled))))
 
   -- the listener is notified of what leaves
-  pub promised_told : s.settings.listening ≡ is_some l → Heard tells l (when_listening s.settings.listening (left_in_run s choices)) n
+  promised_told : s.settings.listening ≡ is_some l → Heard tells l (when_listening s.settings.listening (left_in_run s choices)) n
   promised_told listening =
       subst (λ b. Heard tells l (when_listening b (left_in_run s choices)) n) (sym listening)
       (told-on tells l m n (left_by_writes s.capacity s.settings.policy (after_queued_reads s) s.writes applied.moves) (left_by_choices (before_steps s choices) (ran.by.steps ++ ran.dropped.steps)) applied.told
@@ -460,48 +470,17 @@ module _ {K V X P W L C : Type 0} {tells : L → K → V → RemovalCause → L 
       (subst (λ xs. Told tells m xs n) (sym (gone-append c ran.by.steps ran.dropped.steps ∙ ap (λ xs. left_by_choices c ran.by.steps ++ xs) (drops_silent (after_choices c ran.by.steps) ran.dropped.steps ran.dropped.drops) ∙ append-nil (left_by_choices c ran.by.steps)))
       (subst (λ xs. Told tells m xs n) (left-seen None c ran.by.steps) ran.by.told))))
 
--- ---- the run, with the premises as they come
-
-module _ {K V X P W L C : Type 0} {tells : L → K → V → RemovalCause → L → Type 0} {reads : C → Instant → C → Type 0} (s : State K V X P W) (simple : IsSimple s) (terms : Terms) {q : Tests} (by_state : tests_in q ≡ tests_of s terms.now)
-    {b c d : Contents K V} {ordered : Bool} (kept : ordered ≡ keeps_write_list s.settings) {ns ms ks : List ℕ} {l m n : Option L} (begun : b ≡ after_queued_reads s) (applied : ArePrepared tells s.capacity s.settings.policy ordered (is_some s.settings.weigher) b c ns ms s.writes l m)
-    {says : P → K → V → Bool → Type 0} {qs : List (Registered P)} {limit : Option ℕ} {batch : ℕ} {clock clock_after : C} {passes : ℕ} {left : Bool} (limited : limit ≡ (if s.settings.listening then terms.limit else None)) (batched : batch ≡ terms.batch) (sketched : d.sketch ≡ c.sketch) (ran : IsRan tells says q reads limit batch ordered s.predicates qs (stock_of c ms) (stock_of d ks) m n clock clock_after passes left) where
-  applied_to_state : ArePrepared tells s.capacity s.settings.policy (keeps_write_list s.settings) (is_some s.settings.weigher) (after_queued_reads s) c ns ms s.writes l m
-  applied_to_state =
-      subst (λ o. ArePrepared tells s.capacity s.settings.policy o (is_some s.settings.weigher) (after_queued_reads s) c ns ms s.writes l m) kept
-      (subst (λ b. ArePrepared tells s.capacity s.settings.policy ordered (is_some s.settings.weigher) b c ns ms s.writes l m) begun applied)
-
-  ran_by_terms : IsRan tells says q reads (if s.settings.listening then terms.limit else None) terms.batch (keeps_write_list s.settings) s.predicates qs (stock_of c ms) (stock_of d ks) m n clock clock_after passes left
-  ran_by_terms =
-      subst (λ o. IsRan tells says q reads (if s.settings.listening then terms.limit else None) terms.batch o s.predicates qs (stock_of c ms) (stock_of d ks) m n clock clock_after passes left) kept
-      (subst (λ o. IsRan tells says q reads o terms.batch ordered s.predicates qs (stock_of c ms) (stock_of d ks) m n clock clock_after passes left) limited (subst (λ k. IsRan tells says q reads limit k ordered s.predicates qs (stock_of c ms) (stock_of d ks) m n clock clock_after passes left) batched ran))
-
   -- it keeps all promises, from one write list to the other
   pub run_promised : (read : X → K → V → ℕ → Option ℕ → ℕ → Option ℕ) → (IsAllSent s → NeverRenewsOnRead read s → (k : ℕ) (r : Record K V) → get d.records k ≡ Some r → is_expired r terms.now ≡ false)
       → s.settings.listening ≡ is_some l → IsPromised says read tells reads ns ks s terms left passes (with_contents s d qs) l n clock clock_after
   run_promised read lasts listening = record {
-    readings = ran_by_terms.readings;
-    notices = when_listening s.settings.listening (left_in_run s (choices s simple terms q by_state applied_to_state sketched ran_by_terms));
-    run = promised s simple terms q by_state applied_to_state sketched ran_by_terms read lasts;
-    heard = promised_told s simple terms q by_state applied_to_state sketched ran_by_terms listening;
-    led = ran_by_terms.read;
+    readings = ran.readings;
+    notices = when_listening s.settings.listening (left_in_run s choices);
+    run = promised read lasts;
+    heard = promised_told listening;
+    led = ran.read;
   }
 
   -- a listener stays set
   pub run_keeps_listening : is_some n ≡ is_some l
-  run_keeps_listening = told_same tells m n (left_by_choices (stock_of c ms).contents ran.by.steps) ran.by.told ∙ told_same tells l m (left_by_writes s.capacity s.settings.policy b s.writes applied.moves) applied.told
-
-  -- where no record has an expiry of its own, none has one
-  pub run_leaves_lasting : ((k : ℕ) (r : Record K V) → get s.records k ≡ Some r → r.expires ≡ None) → (k : ℕ) (r : Record K V) → get d.records k ≡ Some r → r.expires ≡ None
-  run_leaves_lasting = end_lasting s simple terms q by_state applied_to_state sketched ran_by_terms
-
-  -- once everything was sent, each record is a settled member
-  pub run_settles_each : IsAllSent s → (k : ℕ) (r : Record K V) → get d.records k ≡ Some r → (is_member k d.access ≡ true) × (is_applied r ≡ true)
-  run_settles_each = each_settled s simple terms q by_state applied_to_state sketched ran_by_terms
-
-  -- the state is as valid as before
-  pub run_leaves_valid : (eq : K → K → Bool) → IsValid eq s → IsValid eq (with_contents s d qs)
-  run_leaves_valid eq valid = end_valid s simple terms q by_state applied_to_state sketched ran_by_terms eq valid
-
-  -- once everything was sent, the report is exact, whatever the batch
-  pub run_leaves_exact : IsAllSent s → IsExact (with_contents s d qs)
-  run_leaves_exact = end_exact s simple terms q by_state applied_to_state sketched ran_by_terms
+  run_keeps_listening = told_same tells m n (left_by_choices (stock_of c ms).contents ran.by.steps) ran.by.told ∙ told_same tells l m (left_by_writes s.capacity s.settings.policy (after_queued_reads s) s.writes applied.moves) applied.told

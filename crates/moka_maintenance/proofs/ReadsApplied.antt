@@ -13,7 +13,6 @@ use Rattle.moka_maintenance.specs.Queued.{IsReadAt, IsRenewed, counted_all, read
 use Rattle.moka_maintenance.specs.Queues.{AppliesReads}
 use Rattle.moka_maintenance.specs.Steps.{contents_in}
 use Rattle.moka_maintenance.specs.Timers.{Serves}
-use Rattle.moka_maintenance.proofs.Halves.{reads-both}
 use Rattle.moka_maintenance.proofs.Popped.{first_or_rest, nothing_there}
 use Rattle.moka_maintenance.proofs.Timing.{keeps-none, keeps-on}
 
@@ -41,12 +40,7 @@ module _ {K V : Type 0} where
 
   -- and is counted nowhere where there is no sketch
   read-uncounted : (c : Contents K V) (q : QueuedRead) → record (after_read c (read_of q)) { sketch = None } ≡ after_read (record c { sketch = None }) (read_of q)
-  read-uncounted c q = by q.outcome
-    where
-      by : (o : Outcome) → record (after_read c (read_of (record q { outcome = o }))) { sketch = None } ≡ after_read (record c { sketch = None }) (read_of (record q { outcome = o }))
-      by O.Hit = refl
-      by O.Renewal = refl
-      by O.Miss = refl
+  read-uncounted c q = ap (λ (d : Contents K V). record d { sketch = None }) (read-apart c q) ∙ sym (read-apart (record c { sketch = None }) q)
 
   -- all reads count their hashes, whatever else they do
   pub reads-apart : (c : Contents K V) (qs : List QueuedRead) → after_reads c (reads_of qs) ≡ record (after_reads (record c { sketch = None }) (reads_of qs)) { sketch = counted_all c.sketch qs }
@@ -57,6 +51,11 @@ module _ {K V : Type 0} where
       ∙ ap (λ sketch. record (after_reads (after_read (record c { sketch = None }) (read_of q)) (reads_of qs)) { sketch = counted_all sketch qs }) (ap (λ (d : Contents K V). d.sketch) (read-apart c q))
 
 -- ---- what reads make of a store
+
+-- reads and then others
+reads-both : {K V : Type 0} (c : Contents K V) (xs ys : List QueuedRead) → after_reads c (reads_of (xs ++ ys)) ≡ after_reads (after_reads c (reads_of xs)) (reads_of ys)
+reads-both c [] ys = refl
+reads-both c (x ∷ xs) ys = reads-both (after_read c (read_of x)) xs ys
 
 module _ {K V S : Type 0} where
   -- no reads

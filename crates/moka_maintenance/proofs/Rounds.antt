@@ -1,90 +1,28 @@
 -- A scan's walk from the cursor to the end, and then from the front on.
-use Rattle.std.proofs.Common.{◌≡◌, ◌≢◌, refl, ℕ, ◌+◌, ◌-◌, ◌≤◌, nat_le, ◌<◌, ◌⊎◌, Bool, true, false, true≢false, cond, not, ◌==◌, ◌||◌, List, [], ◌∷◌, ◌++◌, length, Option, Some, None, is_some, is_none, slice_get, inl, inr, ap, sym, subst, ◌∙◌, arith, append_assoc, append-nil}
-use Rattle.std.proofs.lemmas.Bool.{ne_eqb, cond-true, cond-false}
-use Rattle.std.proofs.lemmas.List.{length-map}
+use Rattle.std.proofs.Common.{◌≡◌, refl, ℕ, ◌+◌, ◌-◌, ◌≤◌, nat_le, ◌<◌, ◌⊎◌, Bool, true, false, true≢false, cond, ◌==◌, ◌||◌, List, [], ◌∷◌, ◌++◌, length, Option, Some, None, is_none, slice_get, inl, inr, ap, sym, subst, ◌∙◌, arith, append_assoc, append-nil, length-append}
+use Rattle.std.proofs.lemmas.Bool.{cond-true, cond-false}
+use Rattle.std.proofs.lemmas.List.{nil_from_length}
 use Rattle.std.proofs.lemmas.List.Sorted.{IsPermutation-append_comm}
 use Rattle.std.proofs.lemmas.Map.Keys.{IsDistinct-IsPermutation}
 use Rattle.std.specs.FinMap.{get}
 use Rattle.std.specs.List.{AllByRecursion, IsDistinct}
 use Rattle.moka_parts.specs.declared.notification.RemovalCause.{RemovalCause}
-use Rattle.moka_parts.specs.declared.records.Member.{Member}
-use Rattle.moka_parts.specs.declared.records.Record.{Record}
 use Rattle.moka_parts.specs.declared.records.Registered.{Registered}
-use Rattle.moka_parts.specs.Records.{Records, counted_of, is_listed, is_member, is_settled, numbers_of, settled_members, without_member, without_number}
-use Rattle.moka_parts.specs.Maintenance.{Choice, Removes, MovesToBack, Drops}
+use Rattle.moka_parts.specs.Records.{is_listed, is_settled, numbers_of}
 use Rattle.moka_parts.specs.Order.{IsListOf}
 use Rattle.moka_parts.specs.Scan.{AreUncovered}
 use Rattle.moka_parts.proofs.Maps.{itself_tested, same_by_test, same_or_apart}
-use Rattle.moka_parts.proofs.Conserved.{still_within}
 use Rattle.moka_parts.proofs.Scanned.{uncovered-append, uncovered-kept, listed_append}
-use Rattle.moka_parts.proofs.WriteList.{listed_past_taken_out, unlisted_all}
 use Rattle.moka_store.specs.Store.{Kept}
-use Rattle.moka_store.proofs.Gets.{after_remove}
-use Rattle.moka_store.proofs.Members.{counted-without}
 use Rattle.moka_maintenance.specs.Upkeep.{SetsNoTimer}
 use Rattle.moka_maintenance.proofs.Upkeep.{untimed-on}
 use Rattle.moka_maintenance.specs.Scanning.{from_cursor, before_cursor, round_from, LeavesSome, MayScan, IsWalked, GoesRound, IsRound}
-use Rattle.moka_maintenance.specs.Steps.{Stock, after_step, after_steps, stock_in}
-use Rattle.moka_maintenance.proofs.Stepped.{length-on, length-removed, stepped-on}
-use Rattle.moka_maintenance.proofs.Walked.{all_mid, none_looked, settled-append, settled-same, settled_few, some-append, stands_still}
-
--- ---- lists
-
-later_listed : (m n : ℕ) (ns : List ℕ) → is_listed n ns ≡ true → ((m == n) || is_listed n ns) ≡ true
-later_listed m n ns e = elim (m == n) as (λ b. (b || is_listed n ns) ≡ true) [ true ↦ refl | false ↦ e ]
-
-listed_first : (n : ℕ) (xs ys : List ℕ) → is_listed n xs ≡ true → is_listed n (xs ++ ys) ≡ true
-listed_first n [] ys e = absurd (true≢false (sym e))
-listed_first n (x ∷ xs) ys e = go (x == n) (listed_first n xs ys) e
-  where
-    go : (b : Bool) → (is_listed n xs ≡ true → is_listed n (xs ++ ys) ≡ true) → (b || is_listed n xs) ≡ true → (b || is_listed n (xs ++ ys)) ≡ true
-    go true later e = refl
-    go false later e = later e
-
-listed_second : (n : ℕ) (xs ys : List ℕ) → is_listed n ys ≡ true → is_listed n (xs ++ ys) ≡ true
-listed_second n [] ys e = e
-listed_second n (x ∷ xs) ys e = later_listed x n (xs ++ ys) (listed_second n xs ys e)
-
-member_past : (n m : ℕ) (access : List Member) → n ≢ m → is_member n access ≡ true → is_member n (without_member m access) ≡ true
-member_past n m access other there = ap is_some (counted-without m n access ∙ cond-false (n == m) None (counted_of n access) (ne_eqb n m other)) ∙ there
-
--- a list without repetition of members' numbers is no longer than theirs
-listed_few : (ns : List ℕ) (access : List Member) → IsDistinct (◌==◌) ns → ((n : ℕ) → is_listed n ns ≡ true → is_member n access ≡ true) → length ns ≤ length access
-unfolding IsDistinct
-listed_few [] access once all = omega arith
-listed_few (m ∷ ns) access once all =
-    let there : is_member m access ≡ true = all m (ap (λ b. b || is_listed m ns) (itself_tested m)) in
-    let less = length-removed m access there in
-    let rest = listed_few ns (without_member m access) once.1 (λ n listed. member_past n m access (λ same. true≢false (sym (subst (λ k. is_listed k ns ≡ true) same listed) ∙ unlisted_all m ns once.0)) (all n (later_listed m n ns listed))) in
-    omega arith
-
-pub written_few : (access : List Member) (ns : List ℕ) → IsListOf access ns → length ns ≤ length access
-written_few access ns h = listed_few ns access h.0 (λ n listed. sym (h.1 n) ∙ listed)
-
-pub none_settled : {K V : Type 0} (records : Records K V) (access : List Member) → ((n : ℕ) → is_member n access ≡ true → is_settled records n ≡ false) → settled_members records access ≡ []
-none_settled records [] all = refl
-none_settled records (a ∷ access) all =
-    cond-false (is_settled records a.number) (a ∷ settled_members records access) (settled_members records access) (all a.number (first a access))
-    ∙ none_settled records access (λ n there. all n (still_within a access n there))
-  where
-    first : (a : Member) (access : List Member) → is_member a.number (a ∷ access) ≡ true
-    first a access = ap (λ b. is_some (cond b (Some a.counted) (counted_of a.number access))) (itself_tested a.number)
-
-pub each_unsettled : {K V : Type 0} (records : Records K V) (access : List Member) → settled_members records access ≡ [] → (n : ℕ) → is_member n access ≡ true → is_settled records n ≡ false
-each_unsettled records [] none n there = absurd (true≢false (sym there))
-each_unsettled records (a ∷ access) none n there = go (is_settled records a.number) refl (a.number == n) refl (λ rest later. each_unsettled records access rest n later) none there
-  where
-    go : (s : Bool) → is_settled records a.number ≡ s → (b : Bool) → (a.number == n) ≡ b → (settled_members records access ≡ [] → is_member n access ≡ true → is_settled records n ≡ false) → cond s (a ∷ settled_members records access) (settled_members records access) ≡ [] → is_some (cond b (Some a.counted) (counted_of n access)) ≡ true → is_settled records n ≡ false
-    go true e b f later none there = cc
-    go false e true f later none there = ap (is_settled records) (sym (same_by_test a.number n f)) ∙ e
-    go false e false f later none there = later none there
-
--- what is left by steps was there before
-pub still_there : {K V : Type 0} (c : Stock K V) (xs : List Choice) (n : ℕ) (r : Record K V) → get (after_steps c xs).contents.records n ≡ Some r → get c.contents.records n ≡ Some r
-still_there c [] n r at = at
-still_there c (Removes m cause ∷ xs) n r at = (after_remove c.contents.records m n r (still_there (after_step c (Removes m cause)) xs n r at)).1
-still_there c (MovesToBack m ∷ xs) n r at = still_there (after_step c (MovesToBack m)) xs n r at
-still_there c (Drops i ∷ xs) n r at = still_there c xs n r at
+use Rattle.moka_maintenance.specs.Steps.{Stock, stock_in}
+use Rattle.moka_maintenance.proofs.Stepped.{stepped-on, still_there}
+use Rattle.moka_maintenance.proofs.Walked.{none_looked, settled-append, settled-same, some-append, stands_still}
+use Rattle.moka_maintenance.proofs.Listed.{all_mid, filter_few, listed_first, listed_second, members_few, written_few}
+use Rattle.moka_maintenance.proofs.Fronts.{all_unsettled}
+use Rattle.moka_maintenance.proofs.Popped.{front_empty}
 
 -- ---- the round from a cursor
 
@@ -163,52 +101,6 @@ flips a b = elim (same_or_apart a b) [
 round_once : (before rest walked ahead : List ℕ) → IsDistinct (◌==◌) (before ++ rest) → rest ++ before ≡ walked ++ ahead → IsDistinct (◌==◌) walked
 round_once before rest walked ahead once round = once_prefix walked ahead (subst (IsDistinct (◌==◌)) round (IsDistinct-IsPermutation (◌==◌) flips (before ++ rest) (rest ++ before) (IsPermutation-append_comm before rest) once))
 
-taken_out : (n : ℕ) (ns : List ℕ) → length (without_number n ns) ≤ length ns
-taken_out n [] = omega arith
-taken_out n (m ∷ ns) = let rest = taken_out n ns in elim (m == n) as (λ b. length (cond (not b) (m ∷ without_number n ns) (without_number n ns)) ≤ length (m ∷ ns)) [
-  | true ↦ omega arith
-  | false ↦ omega arith
-]
-
-one_taken_out : (n : ℕ) (ns : List ℕ) → is_listed n ns ≡ true → length (without_number n ns) + 1 ≤ length ns
-one_taken_out n [] e = absurd (true≢false (sym e))
-one_taken_out n (m ∷ ns) e = go (m == n) (one_taken_out n ns) e
-  where
-    go : (b : Bool) → (is_listed n ns ≡ true → length (without_number n ns) + 1 ≤ length ns) → (b || is_listed n ns) ≡ true → length (cond (not b) (m ∷ without_number n ns) (without_number n ns)) + 1 ≤ length (m ∷ ns)
-    go true later e = let rest = taken_out n ns in omega arith
-    go false later e = let rest = later e in omega arith
-
--- numbers none of which stands twice are no more than those of a list that has each of them
-distinct_few : (ks ns : List ℕ) → IsDistinct (◌==◌) ks → ((n : ℕ) → is_listed n ks ≡ true → is_listed n ns ≡ true) → length ks ≤ length ns
-unfolding IsDistinct
-distinct_few [] ns once all = omega arith
-distinct_few (k ∷ ks) ns once all =
-    let less = one_taken_out k ns (all k (ap (λ b. b || is_listed k ks) (itself_tested k))) in
-    let rest = distinct_few ks (without_number k ns) once.1 (λ n there. elim (same_or_apart n k) [
-      | inl same ↦ absurd (true≢false (sym (subst (λ j. is_listed j ks ≡ true) same there) ∙ unlisted_all k ks once.0))
-      | inr apart ↦ listed_past_taken_out k n ns apart ∙ all n (later_listed k n ks there)
-    ]) in
-    omega arith
-
-numbered : (n : ℕ) (access : List Member) → is_listed n (numbers_of access) ≡ is_member n access
-numbered n [] = refl
-numbered n (a ∷ access) = elim (a.number == n) as (λ b. (b || is_listed n (numbers_of access)) ≡ is_some (cond b (Some a.counted) (counted_of n access))) [
-  | true ↦ refl
-  | false ↦ numbered n access
-]
-
--- members none of which stands twice are no more than the numbers in the order of writing
-members_few : (access : List Member) (ns : List ℕ) → IsDistinct (◌==◌) (numbers_of access) → IsListOf access ns → length access ≤ length ns
-members_few access ns once h = subst (λ i. i ≤ length ns) (length-map access (λ (a : Member). a.number)) (distinct_few (numbers_of access) ns once (λ n there. h.1 n ∙ sym (numbered n access) ∙ there))
-
-none_left : (ns : List ℕ) → length ns ≤ 0 → ns ≡ []
-none_left [] few = refl
-none_left (n ∷ ns) few = absurd (omega arith)
-
-left_none : (xs ys : List ℕ) → xs ++ ys ≡ [] → xs ≡ []
-left_none [] ys e = refl
-left_none (x ∷ xs) ys e = absurd (let l = ap length e in omega arith)
-
 nothing_ahead : (ns : List ℕ) (next : Option ℕ) → next ≡ slice_get ns 0 → is_none next ≡ true → ns ≡ []
 nothing_ahead [] next at none = refl
 nothing_ahead (n ∷ ns) next at none = absurd (true≢false (sym none ∙ ap is_none at))
@@ -246,22 +138,25 @@ module _ {K V L P S : Type 0} (tells : L → K → V → RemovalCause → L → 
 
   lengths : length old.written ≡ length before + (passed + length h.ahead)
   lengths =
-      let all = ap length list ∙ length-on before rest in
-      let behind = ap length h.split ∙ length-on h.walked h.ahead in
+      let all = ap length list ∙ length-append before rest in
+      let behind = ap length h.split ∙ length-append h.walked h.ahead in
       let c = h.count in
       omega arith
 
   fewer : looked ≤ passed
-  fewer = let some = settled_few old.records h.walked in let all = h.looks in let c = h.count in omega arith
+  fewer = let some = filter_few (is_settled old.records) h.walked in let all = h.looks in let c = h.count in omega arith
+
+  few_written : length old.written ≤ length old.access
+  few_written = go old.ordered refl
+    where
+      go : (b : Bool) → old.ordered ≡ b → length old.written ≤ length old.access
+      go true ordered = written_few old.access old.written (known.listed ordered)
+      go false off = let none = ap length (known.unlisted off) in omega arith
 
   -- the walk did not come to the end
   module _ (on : is_none mid.cursor ≡ false) (stopped : (length old.access ≤ passed) ⊎ (batch ≤ looked)) where
     beyond : length old.access ≤ passed → ⊥
-    beyond all = go old.ordered refl
-      where
-        go : (b : Bool) → old.ordered ≡ b → ⊥
-        go true ordered = let few = written_few old.access old.written (known.listed ordered) in let more = some_ahead h.ahead mid.cursor h.at on in let sum = lengths in absurd (omega arith)
-        go false off = let none = ap length (known.unlisted off) in let more = some_ahead h.ahead mid.cursor h.at on in let sum = lengths in absurd (omega arith)
+    beyond all = let few = few_written in let more = some_ahead h.ahead mid.cursor h.at on in let sum = lengths in absurd (omega arith)
 
     goes-part : GoesRound says ps batch old mid looked
     goes-part = record {
@@ -289,7 +184,7 @@ module _ {K V L P S : Type 0} (tells : L → K → V → RemovalCause → L → 
     round-part keeps end part = record {
       by = h.by;
       goes = goes-part;
-      ended = part ∙ sym (is_short (length rest) (length h.walked) (let all = ap length h.split ∙ length-on h.walked h.ahead in let more = some_ahead h.ahead mid.cursor h.at on in omega arith));
+      ended = part ∙ sym (is_short (length rest) (length h.walked) (let all = ap length h.split ∙ length-append h.walked h.ahead in let more = some_ahead h.ahead mid.cursor h.at on in omega arith));
       few = h.few;
       unlooked = λ ordered some none. elim stopped [ inl all ↦ absurd (beyond all) | inr used ↦ absurd (omega arith) ];
       whole = λ ordered large. elim stopped [ inl all ↦ absurd (beyond all) | inr used ↦ absurd (beyond (let f = fewer in omega arith)) ];
@@ -313,9 +208,9 @@ module _ {K V L P S : Type 0} (tells : L → K → V → RemovalCause → L → 
 
     lengths_now : length before + length h.kept ≡ passed_then + length j.ahead
     lengths_now =
-        let all = ap length there_now ∙ length-on j.walked j.ahead in
-        let first = length-on before (h.kept ++ h.ahead) in
-        let then = length-on h.kept h.ahead in
+        let all = ap length there_now ∙ length-append j.walked j.ahead in
+        let first = length-append before (h.kept ++ h.ahead) in
+        let then = length-append h.kept h.ahead in
         let none = ap length none_ahead in
         let c = j.count in
         omega arith
@@ -332,20 +227,16 @@ module _ {K V L P S : Type 0} (tells : L → K → V → RemovalCause → L → 
     part = prefix_of j.walked j.ahead before (h.kept ++ h.ahead) (sym there_now) (let c = j.count in let f = in_front in omega arith)
 
     lengths_left : length before ≡ passed_then + length part.left
-    lengths_left = let all = ap length part.longer ∙ length-on j.walked part.left in let c = j.count in omega arith
+    lengths_left = let all = ap length part.longer ∙ length-append j.walked part.left in let c = j.count in omega arith
 
     -- the batch is used up, or the second walk went past all that stood before the start
     used_up : (looked + looked_then ≡ batch) ⊎ (part.left ≡ [])
     used_up = go (is_none new.cursor) refl
       where
-        through : length old.access - passed ≤ passed_then → (b : Bool) → old.ordered ≡ b → part.left ≡ []
-        through all true ordered = none_left part.left (let few = written_few old.access old.written (known.listed ordered) in let sum = total in let left = lengths_left in omega arith)
-        through all false off = none_left part.left (let none = ap length (known.unlisted off) in let sum = total in let left = lengths_left in omega arith)
-
         go : (b : Bool) → is_none new.cursor ≡ b → (looked + looked_then ≡ batch) ⊎ (part.left ≡ [])
-        go true none = inr (left_none part.left (h.kept ++ h.ahead) (sym part.rest ∙ nothing_ahead j.ahead new.cursor j.at none))
+        go true none = inr (front_empty part.left (h.kept ++ h.ahead) (sym part.rest ∙ nothing_ahead j.ahead new.cursor j.at none))
         go false some = elim (stopped some) [
-          | inl all ↦ inr (through all old.ordered refl)
+          | inl all ↦ inr (nil_from_length part.left (let few = few_written in let sum = total in let left = lengths_left in omega arith))
           | inr used ↦ inl (omega arith)
         ]
 
@@ -384,7 +275,7 @@ module _ {K V L P S : Type 0} (tells : L → K → V → RemovalCause → L → 
     all_passed within ordered n there = elim used_up [
       | inl used ↦ all_by (elim within [
         | inl less ↦ absurd (omega arith)
-        | inr large ↦ (let few = written_few old.access old.written (known.listed ordered) in let sum = total in let f = fewer in let some = settled_few mid.records j.walked in let all = j.looks in let c = j.count in let left = lengths_left in none_left part.left (omega arith))
+        | inr large ↦ (let few = few_written in let sum = total in let f = fewer in let some = filter_few (is_settled mid.records) j.walked in let all = j.looks in let c = j.count in let left = lengths_left in nil_from_length part.left (omega arith))
       ])
       | inr through ↦ all_by through
     ]
@@ -400,9 +291,9 @@ module _ {K V L P S : Type 0} (tells : L → K → V → RemovalCause → L → 
     round-whole keeps then_keeps end over_all = record {
       by = stepped-on tells (MayScan says ps) (stock_in old) (stock_in mid) (stock_in new) l m k h.by j.by;
       goes = goes-whole;
-      ended = over_all ∙ sym (is_through (length rest) (length (h.walked ++ j.walked)) (let same = ap length all_walked in let both = length-on h.walked j.walked in omega arith));
-      few = (let both = length-on h.by.steps j.by.steps in let f = h.few in let g = j.few in omega arith);
-      unlooked = λ ordered some none. none_settled old.records old.access (λ n member.
+      ended = over_all ∙ sym (is_through (length rest) (length (h.walked ++ j.walked)) (let same = ap length all_walked in let both = length-append h.walked j.walked in omega arith));
+      few = (let both = length-append h.by.steps j.by.steps in let f = h.few in let g = j.few in omega arith);
+      unlooked = λ ordered some none. all_unsettled old.records old.access (λ n member.
           none_looked old.records (h.walked ++ j.walked) (sym goes-whole.looks ∙ none) n (all_passed (inl (omega arith)) ordered n ((known.listed ordered).1 n ∙ member)));
       whole = λ ordered large. (record { settled = λ n r listed at applied. goes-whole.uncovered.settled n r (all_passed (inr large) ordered n listed) at applied }, over_all);
       upkeep = untimed-on old mid new keeps then_keeps;

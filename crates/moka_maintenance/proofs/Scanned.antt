@@ -8,7 +8,7 @@ use Rattle.moka_parts.specs.declared.notification.RemovalCause.{RemovalCause}
 use Rattle.moka_parts.specs.declared.records.Record.{Record}
 use Rattle.moka_parts.specs.declared.records.Registered.{Registered}
 use Rattle.moka_parts.specs.Maintenance.{Choice, Removes, MovesToBack, Drops, Tests, after_choice, after_choices, kept_by_choice, kept_by_choices, AreJustified}
-use Rattle.moka_parts.specs.Visibility.{Covers, SomeCovers}
+use Rattle.moka_parts.specs.Visibility.{Covers, NoneCovers, SomeCovers}
 use Rattle.moka_parts.specs.Order.{IsListOf}
 use Rattle.moka_parts.specs.State.{Contents}
 use Rattle.moka_parts.specs.Grounds.{AreDrops}
@@ -18,11 +18,12 @@ use Rattle.moka_store.specs.Store.{Kept}
 use Rattle.moka_maintenance.proofs.Upkeep.{untimed-none}
 use Rattle.moka_maintenance.specs.Scanning.{round_from, MayScan, GoesRound, IsRound, AreDropped, AllDropped, IsScanned}
 use Rattle.moka_maintenance.specs.Steps.{Stock, AreAllMembers, HasNoSettled, after_steps, contents_in, stock_in}
-use Rattle.moka_maintenance.proofs.Dropping.{drops_stay, kept-append}
+use Rattle.moka_maintenance.proofs.Dropping.{drops_stay, kept-append, both_drop, by_drops}
 use Rattle.moka_maintenance.proofs.Popped.{first_or_rest}
-use Rattle.moka_maintenance.proofs.Rounds.{still_there}
-use Rattle.moka_maintenance.proofs.Stepped.{stepped-none}
-use Rattle.moka_maintenance.proofs.Walked.{no_steps}
+use Rattle.moka_maintenance.proofs.Stepped.{stepped-none, still_there}
+use Rattle.std.proofs.lemmas.List.{nil_from_length}
+use Rattle.std.proofs.lemmas.Bool.{and_from, and_parts}
+use Rattle.moka_maintenance.proofs.ScanEnds.{ends-none, ends-round}
 
 -- ---- predicates that are left were there before
 
@@ -67,20 +68,13 @@ dropped-none says c ps qs same = record { steps = []; drops = tt; justified = λ
 
 module _ {K V P : Type 0} (says : P → K → V → Bool → Type 0) (c d : Contents K V) (fewer : (n : ℕ) (r : Record K V) → get d.records n ≡ Some r → get c.records n ≡ Some r) where
   pub drops_later : (ps : List (Registered P)) (xs : List Choice) → AreDrops xs → (q : Tests) → AreJustified says q c ps xs → AreJustified says q d ps xs
-  drops_later ps [] drops q are = tt
-  drops_later ps (Removes n cause ∷ xs) drops q are = absurd drops
-  drops_later ps (MovesToBack n ∷ xs) drops q are = absurd drops
-  drops_later ps (Drops i ∷ xs) drops q are = ((are.0.0, are.0.1, λ n r at. are.0.2 n r (fewer n r at)), drops_later (remove ps i) xs drops q are.1)
+  drops_later ps xs drops q are =
+      by_drops (λ xs. (ps : List (Registered P)) → AreJustified says q c ps xs → AreJustified says q d ps xs) (λ ps are. tt)
+      (λ i xs later ps are. ((are.0.0, are.0.1, λ n r at. are.0.2 n r (fewer n r at)), later (remove ps i) are.1)) xs drops ps are
 
   -- where records have left since, they cover none either
   pub dropped-later : (ps qs : List (Registered P)) → AreDropped says c ps qs → AreDropped says d ps qs
   dropped-later ps qs h = record { steps = h.steps; drops = h.drops; justified = λ q. drops_later ps h.steps h.drops q (h.justified q); kept = h.kept }
-
-both_drop : (xs ys : List Choice) → AreDrops xs → AreDrops ys → AreDrops (xs ++ ys)
-both_drop [] ys h j = j
-both_drop (Removes n cause ∷ xs) ys h j = h
-both_drop (MovesToBack n ∷ xs) ys h j = h
-both_drop (Drops i ∷ xs) ys h j = both_drop xs ys h j
 
 -- some leave, and then others
 pub dropped-on : {K V P : Type 0} (says : P → K → V → Bool → Type 0) (c : Contents K V) (ps qs rs : List (Registered P)) → AreDropped says c ps qs → AreDropped says c qs rs → AreDropped says c ps rs
@@ -99,21 +93,18 @@ covers_fewer {K} {V} {P} says ps (q ∷ qs) less r covered = elim covered [
   | inr later ↦ covers_fewer says ps qs (λ p there. less p (Contains-append_right (q ∷ []) qs p there)) r later
 ]
 
+-- where none of them covers it, none of those does that are left
+pub covers_none : {K V P : Type 0} (says : P → K → V → Bool → Type 0) (ps qs : List (Registered P)) → ((p : Registered P) → Contains qs p → Contains ps p) → (r : Record K V) → NoneCovers says ps r → NoneCovers says qs r
+covers_none says ps [] less r none = tt
+covers_none says ps (q ∷ qs) less r none = (not_one_covers says ps q r none (less q (0, omega arith, refl)), covers_none says ps qs (λ p there. less p (Contains-append_right (q ∷ []) qs p there)) r none)
+
 -- ---- the scan
 
-both_more : (m n : ℕ) → (nat_lt 0 m && nat_lt 0 n) ≡ true → (1 ≤ m) × (0 < n)
-both_more m n e = go (nat_lt 0 m) (nat_lt 0 n) refl refl e
-  where
-    go : (a b : Bool) → nat_lt 0 m ≡ a → nat_lt 0 n ≡ b → (a && b) ≡ true → (1 ≤ m) × (0 < n)
-    go true true f g e = (grind (arith, f), grind (arith, g))
-    go true false f g e = absurd (true≢false (sym e))
-    go false b f g e = absurd (true≢false (sym e))
+pub both_more : (m n : ℕ) → (nat_lt 0 m && nat_lt 0 n) ≡ true → (1 ≤ m) × (0 < n)
+both_more m n e = (let both = and_parts (nat_lt 0 m) (nat_lt 0 n) e in let first = both.0 in let second = both.1 in (grind (arith, first), grind (arith, second)))
 
 more_both : (m n : ℕ) → 1 ≤ m → 0 < n → (nat_lt 0 m && nat_lt 0 n) ≡ true
-more_both m n some more = ap (λ b. b && nat_lt 0 n) (is_more m some) ∙ is_more n more
-  where
-    is_more : (k : ℕ) → 1 ≤ k → nat_lt 0 k ≡ true
-    is_more k some = grind arith
+more_both m n some more = and_from (nat_lt 0 m) (nat_lt 0 n) (grind arith) (grind arith)
 
 module _ {K V L P S : Type 0} (tells : L → K → V → RemovalCause → L → Type 0) (says : P → K → V → Bool → Type 0) (batch : ℕ) (old : Kept K V S) (ps : List (Registered P)) (l : Option L) where
   -- nothing is passed
@@ -133,9 +124,9 @@ module _ {K V L P S : Type 0} (tells : L → K → V → RemovalCause → L → 
     next = sym (append-nil (round_from old.cursor old.written));
   }
 
-  pub scanned-none : length ps ≡ 0 → IsScanned tells says ps batch old old ps l l false
+  pub scanned-none : length ps ≡ 0 → (old.ordered ≡ true → IsListOf old.access old.written) → IsScanned tells says ps batch old old ps l l false
   unfolding stepped-none
-  scanned-none none = record {
+  scanned-none none known = record {
     by = stepped-none tells (MayScan says ps) (stock_in old) l;
     dropped = dropped-none says (contents_in old) ps ps refl;
     looked = 0;
@@ -143,11 +134,10 @@ module _ {K V L P S : Type 0} (tells : L → K → V → RemovalCause → L → 
     drops = either {A = AllDropped says (contents_in old) ps ps} _ (record { dropped = dropped-none says (contents_in old) ps ps refl; used = λ p there. (let lt = there.1 in absurd (omega arith)) }) refl;
     few = omega arith;
     unregistered = λ e. (refl, refl);
-    idle = λ e. refl;
+    ends = λ ordered. ends-none tells says ps batch old none (known ordered);
     leaves = refl;
-    more = λ is. absurd (true≢false (sym is));
     unfinished = λ ordered some more. absurd (omega arith);
-    whole = λ ordered large all. nothing ps none;
+    whole = λ ordered large all. nil_from_length ps none;
     upkeep = untimed-none old;
   }
     where
@@ -155,18 +145,10 @@ module _ {K V L P S : Type 0} (tells : L → K → V → RemovalCause → L → 
       either true a b = a
       either false a b = b
 
-      nothing : (ps : List (Registered P)) → length ps ≡ 0 → ps ≡ []
-      nothing [] e = refl
-      nothing (p ∷ ps) e = absurd (omega arith)
-
   module _ (new : Kept K V S) (k : Option L) (looked : ℕ) (end : Bool) (h : IsRound tells says ps batch old new l k looked end) (known : old.ordered ≡ true → IsListOf old.access old.written) (some : 1 ≤ length ps)
       (qs : List (Registered P)) (left : Bool) (leaves : left ≡ (nat_lt 0 looked && nat_lt 0 (length qs))) where
-    -- a member was looked at, and a predicate is left
-    both : left ≡ true → (1 ≤ looked) × (0 < length qs)
-    both is = both_more looked (length qs) (sym leaves ∙ is)
-
     settled_none : looked ≡ 0 → HasNoSettled (stock_in old) → HasNoSettled (stock_in new)
-    settled_none none = subst HasNoSettled (sym (h.by.led ∙ ap (after_steps (stock_in old)) (no_steps h.by.steps (let f = h.few in omega arith))))
+    settled_none none = subst HasNoSettled (sym (h.by.led ∙ ap (after_steps (stock_in old)) (nil_from_length h.by.steps (let f = h.few in omega arith))))
 
     decide : old.ordered ≡ true → 1 ≤ batch → 0 < length qs → (left ≡ true) ⊎ HasNoSettled (stock_in new)
     decide ordered batched there = go looked refl
@@ -174,13 +156,6 @@ module _ {K V L P S : Type 0} (tells : L → K → V → RemovalCause → L → 
         go : (n : ℕ) → looked ≡ n → (left ≡ true) ⊎ HasNoSettled (stock_in new)
         go zero none = inr (settled_none none (h.unlooked ordered batched none))
         go (suc n) is = inl (leaves ∙ more_both looked (length qs) (omega arith) there)
-
-    still : batch ≡ 0 → left ≡ false
-    still none = go left refl
-      where
-        go : (b : Bool) → left ≡ b → left ≡ false
-        go true is = (let m = (both is).0 in let n = h.goes.most in absurd (omega arith))
-        go false is = is
 
     joined : AreDropped says (contents_in new) ps qs → (old.ordered ≡ true → length old.access ≤ batch → AreAllMembers (stock_in old) → qs ≡ []) → MatchBool end (AllDropped says (contents_in new) ps qs) (qs ≡ ps) → IsScanned tells says ps batch old new qs l k left
     joined dropped whole over = record {
@@ -191,9 +166,8 @@ module _ {K V L P S : Type 0} (tells : L → K → V → RemovalCause → L → 
       drops = subst (λ b. MatchBool b (AllDropped says (contents_in new) ps qs) (qs ≡ ps)) h.ended over;
       few = h.few;
       unregistered = λ none. (let empty = ap length none in absurd (omega arith));
-      idle = still;
+      ends = λ ordered. ends-round tells says ps batch old new l k looked h.by h.goes some (known ordered);
       leaves = leaves;
-      more = λ is. (both is).1;
       unfinished = decide;
       whole = whole;
       upkeep = h.upkeep;

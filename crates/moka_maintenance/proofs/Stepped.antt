@@ -1,5 +1,5 @@
 -- Steps one after the other, what they tell, and what they leave.
-use Rattle.std.proofs.Common.{◌≡◌, ◌≢◌, refl, ℕ, ◌+◌, ◌≤◌, Bool, true, false, true≢false, cond, not, ◌==◌, List, [], ◌∷◌, ◌++◌, length, Option, Some, None, is_some, inl, inr, ap, sym, subst, ◌∙◌, arith, append-nil}
+use Rattle.std.proofs.Common.{◌≡◌, ◌≢◌, refl, ℕ, ◌+◌, ◌≤◌, Bool, true, false, true≢false, ◌==◌, List, [], ◌∷◌, ◌++◌, length, Option, Some, None, is_some, inl, inr, ap, sym, subst, ◌∙◌, arith, append-nil, length-append}
 use Rattle.std.proofs.lemmas.Bool.{ne_eqb, cond-false, and_parts}
 use Rattle.std.specs.Option.{option_map, option_map_or}
 use Rattle.std.specs.Prelude.{option_to_list}
@@ -16,18 +16,16 @@ use Rattle.moka_parts.proofs.OneMore.{removed_by_append}
 use Rattle.moka_store.proofs.Gets.{after_remove, get-past_remove}
 use Rattle.moka_parts.proofs.AccessList.{counted-to_back}
 use Rattle.moka_store.proofs.Members.{counted-without}
-use Rattle.moka_maintenance.specs.Steps.{Stock, after_step, after_steps, MayLeave, MayRun, MayAll, AreAllMembers, HasUnsettled, Told, IsStepped}
-use Rattle.moka_maintenance.specs.Scanning.{MayScan}
+use Rattle.moka_maintenance.specs.Steps.{Stock, after_step, after_steps, MayLeave, MayRun, MayAll, AreAllMembers, HasUnsettled, Told, IsStepped, HasNoSettled}
 use Rattle.moka_maintenance.proofs.Dropping.{gone-append}
 use Rattle.moka_maintenance.proofs.Told.{told-none, told-on}
-
-pub length-on : {A : Type 0} (xs ys : List A) → length (xs ++ ys) ≡ length xs + length ys
-length-on [] ys = omega arith
-length-on (x ∷ xs) ys = let h = length-on xs ys in grind (arith, h)
+use Rattle.moka_maintenance.proofs.Fronts.{none_settled, none-to_back}
+use Rattle.std.specs.FinMap.{get}
+use Rattle.moka_maintenance.proofs.Listed.{length-removed}
 
 -- the records that steps remove, counted
 pub removed-on : (xs ys : List Choice) → length (removed_by (xs ++ ys)) ≡ length (removed_by xs) + length (removed_by ys)
-removed-on xs ys = ap length (removed_by_append xs ys) ∙ length-on (removed_by xs) (removed_by ys)
+removed-on xs ys = ap length (removed_by_append xs ys) ∙ length-append (removed_by xs) (removed_by ys)
 
 pub removed-few : (xs : List Choice) → length (removed_by xs) ≤ length xs
 removed-few [] = omega arith
@@ -56,27 +54,16 @@ module _ {K V : Type 0} where
 
 -- ---- each removal makes the access list shorter
 
-length-without : (n : ℕ) (xs : List Member) → length (without_member n xs) ≤ length xs
-length-without n [] = omega arith
-length-without n (a ∷ xs) = let rest = length-without n xs in elim (a.number == n) as (λ b. length (cond (not b) (a ∷ without_member n xs) (without_member n xs)) ≤ length (a ∷ xs)) [
-  | true ↦ omega arith
-  | false ↦ omega arith
-]
-
-pub length-removed : (n : ℕ) (xs : List Member) → is_member n xs ≡ true → length (without_member n xs) + 1 ≤ length xs
-length-removed n [] e = cc
-length-removed n (a ∷ xs) e = go (a.number == n) (λ e. length-removed n xs e) e
-  where
-    go : (b : Bool) → (is_member n xs ≡ true → length (without_member n xs) + 1 ≤ length xs) → is_some (cond b (Some a.counted) (counted_of n xs)) ≡ true → length (cond (not b) (a ∷ without_member n xs) (without_member n xs)) + 1 ≤ length (a ∷ xs)
-    go true later e = let rest = length-without n xs in omega arith
-    go false later e = let rest = later e in omega arith
+-- another member stays one
+pub member-past : (n m : ℕ) (access : List Member) → m ≢ n → is_member m (without_member n access) ≡ is_member m access
+member-past n m access other = ap is_some (counted-without n m access ∙ cond-false (m == n) None (counted_of m access) (ne_eqb m n other))
 
 one_at_most : (n : ℕ) (o : Option ℕ) → length (option_to_list (option_map (member n) o)) ≤ 1
 one_at_most n None = omega arith
 one_at_most n (Some w) = omega arith
 
 length-back : (n : ℕ) (xs : List Member) → is_member n xs ≡ true → length (to_back n xs) ≤ length xs
-length-back n xs e = let less = length-removed n xs e in let plus = length-on (without_member n xs) (option_to_list (option_map (member n) (counted_of n xs))) in let one = one_at_most n (counted_of n xs) in omega arith
+length-back n xs e = let less = length-removed n xs e in let plus = length-append (without_member n xs) (option_to_list (option_map (member n) (counted_of n xs))) in let one = one_at_most n (counted_of n xs) in omega arith
 
 pub shrinks : {K V : Type 0} (c : Stock K V) (xs : List Choice) → MayAll MayLeave c xs → length (after_steps c xs).contents.access + length (removed_by xs) ≤ length c.contents.access
 shrinks c [] may = omega arith
@@ -87,14 +74,6 @@ shrinks c (Drops i ∷ xs) may = absurd may.0
 -- ---- what one rule allows, another does
 
 module _ {K V P : Type 0} (q : Tests) (says : P → K → V → Bool → Type 0) (ps : List (Registered P)) where
-  pub scan_runs : (c : Stock K V) (x : Choice) → MayScan says ps c x → MayRun says ps q c x
-  scan_runs c (Removes n Expired) may = (let e = may.4 in cc)
-  scan_runs c (Removes n Explicit) may = (may.0, may.1, may.2, inr may.3)
-  scan_runs c (Removes n Size) may = (let e = may.4 in cc)
-  scan_runs c (Removes n Replaced) may = (let e = may.4 in cc)
-  scan_runs c (MovesToBack n) may = absurd may
-  scan_runs c (Drops i) may = absurd may
-
   pub run_leaves : (c : Stock K V) (x : Choice) → MayRun says ps q c x → MayLeave c x
   run_leaves c (Removes n cause) may = (may.0, may.1, may.2)
   run_leaves c (MovesToBack n) may = may
@@ -121,7 +100,7 @@ module _ {K V : Type 0} where
       let other = apart {n = n} {m = u.number} c (and_parts (is_member n c.contents.access) (is_settled c.contents.records n) may.2).1 u.unsettled in
       record {
         number = u.number;
-        is_in = ap is_some (counted-without n u.number c.contents.access ∙ cond-false (u.number == n) None (counted_of u.number c.contents.access) (ne_eqb u.number n other)) ∙ u.is_in;
+        is_in = member-past n u.number c.contents.access other ∙ u.is_in;
         unsettled = ap (λ o. option_map_or is_applied o false) (get-past_remove c.contents.records n u.number other) ∙ u.unsettled;
       }
   unsettled-step c (MovesToBack n) may u = record { number = u.number; is_in = ap is_some (counted-to_back n u.number c.contents.access) ∙ u.is_in; unsettled = u.unsettled }
@@ -142,7 +121,7 @@ module _ {K V : Type 0} where
   members-step c (Removes m cause) all = λ n r at.
       let old = after_remove c.contents.records m n r at in
       let is = all n r old.1 in
-      (is.0, ap is_some (counted-without m n c.contents.access ∙ cond-false (n == m) None (counted_of n c.contents.access) (ne_eqb n m old.0)) ∙ is.1)
+      (is.0, member-past m n c.contents.access old.0 ∙ is.1)
   members-step c (MovesToBack m) all = λ n r at. ((all n r at).0, ap is_some (counted-to_back m n c.contents.access) ∙ (all n r at).1)
   members-step c (Drops i) all = all
 
@@ -151,14 +130,24 @@ module _ {K V : Type 0} where
   members-steps c (x ∷ xs) all = members-steps (after_step c x) xs (members-step c x all)
 
   -- where no member is settled, none leaves, and none is later
-  none-step : (c : Stock K V) (x : Choice) → MayLeave c x → ((n : ℕ) → is_member n c.contents.access ≡ true → is_settled c.contents.records n ≡ false) → (n : ℕ) → is_member n (after_step c x).contents.access ≡ true → is_settled (after_step c x).contents.records n ≡ false
-  none-step c (Removes m cause) may none n there = absurd (true≢false (sym (and_parts (is_member m c.contents.access) (is_settled c.contents.records m) may.2).1 ∙ none m (and_parts (is_member m c.contents.access) (is_settled c.contents.records m) may.2).0))
-  none-step c (MovesToBack m) may none n there = none n (sym (ap is_some (counted-to_back m n c.contents.access)) ∙ there)
-  none-step c (Drops i) may none n there = absurd may
+  none-step : (c : Stock K V) (x : Choice) → MayLeave c x → HasNoSettled c → HasNoSettled (after_step c x)
+  none-step c (Removes m cause) may none =
+      let is = and_parts (is_member m c.contents.access) (is_settled c.contents.records m) may.2 in
+      absurd (true≢false (sym is.1 ∙ none_settled c.contents.records m c.contents.access none is.0))
+  none-step c (MovesToBack m) may none = none-to_back c.contents.records m c.contents.access may.1 none
+  none-step c (Drops i) may none = absurd may
 
-  pub none-steps : (c : Stock K V) (xs : List Choice) → MayAll MayLeave c xs → ((n : ℕ) → is_member n c.contents.access ≡ true → is_settled c.contents.records n ≡ false) → (n : ℕ) → is_member n (after_steps c xs).contents.access ≡ true → is_settled (after_steps c xs).contents.records n ≡ false
+  pub none-steps : (c : Stock K V) (xs : List Choice) → MayAll MayLeave c xs → HasNoSettled c → HasNoSettled (after_steps c xs)
   none-steps c [] may none = none
   none-steps c (x ∷ xs) may none = none-steps (after_step c x) xs may.1 (none-step c x may.0 none)
+
+  -- ---- what is left was there before
+
+  pub still_there : (c : Stock K V) (xs : List Choice) (n : ℕ) (r : Record K V) → get (after_steps c xs).contents.records n ≡ Some r → get c.contents.records n ≡ Some r
+  still_there c [] n r at = at
+  still_there c (Removes m cause ∷ xs) n r at = (after_remove c.contents.records m n r (still_there (after_step c (Removes m cause)) xs n r at)).1
+  still_there c (MovesToBack m ∷ xs) n r at = still_there (after_step c (MovesToBack m)) xs n r at
+  still_there c (Drops i ∷ xs) n r at = still_there c xs n r at
 
 module _ {K V L : Type 0} (tells : L → K → V → RemovalCause → L → Type 0) (May : Stock K V → Choice → Type 0) where
   -- no step
@@ -181,3 +170,7 @@ module _ {K V L : Type 0} (tells : L → K → V → RemovalCause → L → Type
   -- the same steps by another rule
   unfoldable pub stepped-also : (Other : Stock K V → Choice → Type 0) → ((c : Stock K V) (x : Choice) → May c x → Other c x) → (a b : Stock K V) (l m : Option L) → IsStepped tells May a b l m → IsStepped tells Other a b l m
   stepped-also Other also a b l m h = record { steps = h.steps; may = may-also May Other also a h.steps h.may; led = h.led; told = h.told }
+
+  -- the access list becomes shorter by what leaves
+  pub shorter : ((c : Stock K V) (x : Choice) → May c x → MayLeave c x) → (a b : Stock K V) (l m : Option L) (h : IsStepped tells May a b l m) → length b.contents.access + length (removed_by h.steps) ≤ length a.contents.access
+  shorter leaves a b l m h = subst (λ (x : Stock K V). length x.contents.access + length (removed_by h.steps) ≤ length a.contents.access) (sym h.led) (shrinks a h.steps (may-also May MayLeave leaves a h.steps h.may))

@@ -1,16 +1,21 @@
 -- What every step keeps is kept by none and by one step after another.
-use Rattle.std.proofs.Common.{◌≡◌, ℕ, ◌≤◌, List, Option, Some, ap, sym, ◌∙◌, refl, arith, if◌then◌else◌}
-use Rattle.std.specs.FinMap.{get}
+use Rattle.std.proofs.Common.{◌≡◌, ℕ, ◌≤◌, true, List, Option, Some, None, is_some, ap, sym, subst, ◌∙◌, inl, refl, arith, if◌then◌else◌, ◌==◌}
+use Rattle.std.proofs.lemmas.Option.{same_Some}
+use Rattle.std.proofs.lemmas.Bool.{cond-false, ne_eqb}
+use Rattle.std.specs.FinMap.{FinMap, get, insert, remove}
+use Rattle.std.specs.Ordering.{nat_cmp}
 use Rattle.moka_parts.specs.declared.records.Member.{Member}
 use Rattle.moka_parts.specs.declared.records.Record.{Record}
-use Rattle.moka_parts.specs.Records.{counted_of}
+use Rattle.moka_parts.specs.Records.{Records, counted_of, is_member, without_member, without_number}
 use Rattle.moka_parts.specs.Time.{moment_of}
-use Rattle.moka_store.specs.Store.{Kept, with_timer}
-use Rattle.moka_store.proofs.Gets.{after_remove}
+use Rattle.moka_parts.proofs.AccessList.{counted_taken_out}
+use Rattle.moka_store.specs.Store.{Kept, cursor_past, with_timer}
+use Rattle.moka_store.proofs.Gets.{after_remove, get-past_insert, get-past_remove, get-inserted}
 use Rattle.moka_maintenance.specs.Expelled.{without_record}
+use Rattle.moka_maintenance.specs.Timers.{SetsTimers}
 use Rattle.moka_maintenance.specs.Upkeep.{Upkeep, SetsNoTimer, UpkeepAt}
-use Rattle.moka_maintenance.proofs.Placed.{places-gone, places-on, rows-gone, rows-on}
-use Rattle.moka_maintenance.proofs.Timing.{keeps-gone, keeps-moved, keeps-none, keeps-on, keeps-set}
+use Rattle.moka_maintenance.proofs.Placed.{none_inserted, places-gone, places-on, rows-gone, rows-on}
+use Rattle.moka_maintenance.proofs.Timing.{keeps-none, keeps-on, member-was, sets-at, sets-outside, timer-past, timer-set}
 
 module _ {K V S : Type 0} where
   -- nothing is done
@@ -32,37 +37,97 @@ module _ {K V S : Type 0} where
   pub untimed-on : (a b c : Kept K V S) → SetsNoTimer a b → SetsNoTimer b c → SetsNoTimer a c
   untimed-on a b c h j = record { keeps = upkeep-on a b c h.keeps j.keeps; fewer = λ n t there. h.fewer n t (j.fewer n t there) }
 
+  -- ---- one step
+
+  module _ (old : Kept K V S) {records : Records K V} {access : List Member} {written : List ℕ} {timers : FinMap nat_cmp ℕ} {cursor : Option ℕ} where
+    -- rows stay, and so does each record that has one
+    pub upkeep-changed : (old.timed ≡ true → SetsTimers old (record old { records = records; access = access; written = written; timers = timers; cursor = cursor })) → ((n : ℕ) → get records n ≡ None → get old.records n ≡ None) → Upkeep old (record old { records = records; access = access; written = written; timers = timers; cursor = cursor })
+    upkeep-changed set rows = record { timers = record { ordered = refl; timed = refl; hasher = refl; set = set }; places = λ n p at. at; rows = λ n p at gone. rows n gone; room = omega arith }
+
+  -- members move, and all else stays
+  pub untimed-moved : (old new : Kept K V S) {xs : List Member} {ns : List ℕ} {cursor : Option ℕ} → new ≡ record old { access = xs; written = ns; cursor = cursor } → ((k : ℕ) → counted_of k new.access ≡ counted_of k old.access) → SetsNoTimer old new
+  untimed-moved old new moved counted =
+      subst (λ (k : Kept K V S). SetsNoTimer old k) (sym moved)
+      record {
+        keeps = upkeep-changed old (λ _ n r there is_in applied. inl (there, sym (ap is_some (counted n)) ∙ ap (λ (k : Kept K V S). is_member n k.access) moved ∙ is_in, refl)) (λ n gone. gone);
+        fewer = λ n t there. there;
+      }
+
+  -- the timer of a number is set to its record's expiry
+  pub upkeep-timed : (old new : Kept K V S) (n : ℕ) (r : Record K V) → get old.records n ≡ Some r → new ≡ record old { timers = if old.timed then with_timer old.timers n (moment_of r.expires) else old.timers } → Upkeep old new
+  upkeep-timed old new n r found set =
+      let timed = record old { timers = if old.timed then with_timer old.timers n (moment_of r.expires) else old.timers } in
+      subst (λ (k : Kept K V S). Upkeep old k) (sym set)
+      (upkeep-changed old
+      (λ kept. sets-at old timed n (λ k other. refl) (λ k other is_in. is_in) (timer-past old.timed old.timers n (moment_of r.expires))
+      (λ p there is_in. timer-set old.timed old.timers n (moment_of r.expires) kept ∙ ap (λ (x : Record K V). moment_of x.expires) (same_Some r p (sym found ∙ there)))) (λ n gone. gone))
+
+  -- a record outside the access list changes
+  pub upkeep-outside : (old new : Kept K V S) (n : ℕ) (r : Record K V) → counted_of n old.access ≡ None → new ≡ record old { records = insert old.records n r } → Upkeep old new
+  upkeep-outside old new n r out step =
+      let changed = record old { records = insert old.records n r } in
+      subst (λ (k : Kept K V S). Upkeep old k) (sym step)
+      (upkeep-changed old (λ _. sets-outside old changed n (get-past_insert old.records n r) (λ k other is_in. is_in) (λ k other. refl) out) (none_inserted old.records n r))
+
+  -- a number leaves both orders and the timers, and perhaps its row goes
+  pub upkeep-left : (old new : Kept K V S) (n room : ℕ) (places : FinMap nat_cmp ℕ) → new ≡ record old { access = without_member n old.access; written = without_number n old.written; timers = remove old.timers n; cursor = cursor_past n old.written old.cursor; places = places; room = room } → ((k p : ℕ) → get places k ≡ Some p → get old.places k ≡ Some p) → old.room ≤ room → Upkeep old new
+  upkeep-left old new n room places step fewer more =
+      let left = record old { access = without_member n old.access; timers = remove old.timers n } in
+      subst (λ (k : Kept K V S). Upkeep old k) (sym step)
+      record {
+        timers = record {
+          ordered = refl;
+          timed = refl;
+          hasher = refl;
+          set = λ _. sets-outside old left n (λ k other. refl) (λ k other is_in. member-was n k old.access is_in) (get-past_remove old.timers n) (counted_taken_out n old.access);
+        };
+        places = fewer;
+        rows = λ k p at gone. gone;
+        room = more;
+      }
+
   -- a record leaves
   pub untimed-gone : (old : Kept K V S) (n room : ℕ) → old.room ≤ room → SetsNoTimer old (without_record n room old)
   untimed-gone old n room more =
       let new = without_record n room old in
       record {
-        keeps = record { timers = keeps-gone old new refl refl refl n refl refl refl; places = places-gone old new n refl; rows = rows-gone old new n refl refl; room = more };
+        keeps = record {
+          timers = record {
+            ordered = refl;
+            timed = refl;
+            hasher = refl;
+            set = λ _. sets-outside old new n (get-past_remove old.records n) (λ k other is_in. member-was n k old.access is_in) (get-past_remove old.timers n) (counted_taken_out n old.access);
+          };
+          places = places-gone old new n refl;
+          rows = rows-gone old new n refl refl;
+          room = more;
+        };
         fewer = λ k t there. (after_remove old.timers n k t there).1;
       }
 
-  -- members move, and all else stays
-  pub untimed-moved : (old new : Kept K V S) {xs : List Member} {ns : List ℕ} {cursor : Option ℕ} → new ≡ record old { access = xs; written = ns; cursor = cursor } → ((k : ℕ) → counted_of k new.access ≡ counted_of k old.access) → SetsNoTimer old new
-  untimed-moved old new moved counted = record {
-    keeps = record {
-      timers = keeps-moved old new moved counted;
-      places = λ n p at. sym (ap (λ (k : Kept K V S). get k.places n) moved) ∙ at;
-      rows = λ n p at gone. sym (ap (λ (k : Kept K V S). get k.records n) moved) ∙ gone;
-      room = (let same = ap (λ (k : Kept K V S). k.room) moved in omega arith);
-    };
-    fewer = λ n t there. sym (ap (λ (k : Kept K V S). get k.timers n) moved) ∙ there;
-  }
+  -- a record has seen an operation, and its member goes to the back with another weight
+  module _ (old mid new : Kept K V S) (n generation weight : ℕ) (r : Record K V) (seen : mid ≡ record old { records = insert old.records n (record r { applied = generation }) }) where
+    pub entered-upkeep : (last : Kept K V S) {xs : List Member} {ns : List ℕ} {cursor : Option ℕ} → new ≡ record mid { access = xs; written = ns; cursor = cursor } → ((k : ℕ) → counted_of k new.access ≡ (if k == n then Some weight else counted_of k mid.access))
+        → ((p : Record K V) → get new.records n ≡ Some p → last ≡ record new { timers = if new.timed then with_timer new.timers n (moment_of p.expires) else new.timers }) → Upkeep old last
+    entered-upkeep last {xs} {ns} {cursor} step counted set =
+        let changed : Record K V = record r { applied = generation } in
+        let listed : Kept K V S = record old { records = insert old.records n changed; access = xs; written = ns; cursor = cursor } in
+        let timed : Kept K V S = record listed { timers = if old.timed then with_timer old.timers n (moment_of r.expires) else old.timers } in
+        let there : new ≡ listed = step ∙ ap (λ (k : Kept K V S). record k { access = xs; written = ns; cursor = cursor }) seen in
+        let found : get new.records n ≡ Some changed = ap (λ (k : Kept K V S). get k.records n) there ∙ get-inserted old.records n changed in
+        subst (λ (k : Kept K V S). Upkeep old k) (sym (set changed found ∙ ap (λ (k : Kept K V S). record k { timers = if k.timed then with_timer k.timers n (moment_of r.expires) else k.timers }) there))
+        (upkeep-changed old
+        (λ kept. sets-at old timed n (get-past_insert old.records n changed)
+        (λ k other is_in.
+        (let same : counted_of k xs ≡ counted_of k old.access = ap (λ (s : Kept K V S). counted_of k s.access) (sym step) ∙ counted k ∙ cond-false (k == n) (Some weight) (counted_of k mid.access) (ne_eqb k n other) ∙ ap (λ (s : Kept K V S). counted_of k s.access) seen in
+        sym (ap is_some same) ∙ is_in))
+        (timer-past old.timed old.timers n (moment_of r.expires))
+        (λ p at is_in. timer-set old.timed old.timers n (moment_of r.expires) kept ∙ ap (λ (x : Record K V). moment_of x.expires) (same_Some changed p (sym (get-inserted old.records n changed) ∙ at))))
+        (none_inserted old.records n changed))
 
-  -- the timer of a number is set to its record's expiry
-  pub upkeep-timed : (old new : Kept K V S) (n : ℕ) (r : Record K V) → get old.records n ≡ Some r → new ≡ record old { timers = if old.timed then with_timer old.timers n (moment_of r.expires) else old.timers } → Upkeep old new
-  upkeep-timed old new n r found set = record {
-    timers = keeps-set old old new n r found refl refl refl refl (λ k other. refl) (λ k other. refl) set;
-    places = λ k p at. sym (ap (λ (s : Kept K V S). get s.places k) set) ∙ at;
-    rows = λ k p at gone. sym (ap (λ (s : Kept K V S). get s.records k) set) ∙ gone;
-    room = (let same = ap (λ (s : Kept K V S). s.room) set in omega arith);
-  }
+  -- ---- no timer is due
 
-  -- no timer is due where none was and none is new
+  -- nor is one where none is new
   pub still-upkept : (now : ℕ) (a b c : Kept K V S) → SetsNoTimer b c → UpkeepAt now a b → UpkeepAt now a c
   still-upkept now a b c h j = record { upkeep = upkeep-on a b c j.upkeep h.keeps; none = λ n t there. j.none n t (h.fewer n t there) }
 

@@ -7,10 +7,11 @@ use Rattle.moka_parts.specs.declared.records.Registered.{Registered}
 use Rattle.moka_parts.specs.Surroundings.{Leads}
 use Rattle.moka_parts.specs.Exact.{IsWithin}
 use Rattle.moka_parts.specs.Maintenance.{Choice, is_over, is_late}
-use Rattle.moka_parts.specs.Visibility.{SomeCovers}
+use Rattle.moka_parts.specs.Visibility.{SomeCovers, NoneCovers}
 use Rattle.moka_parts.specs.Bounds.{removed_by}
 use Rattle.moka_parts.specs.Grounds.{FollowsGrounds, grounds_of, grounds_of_pass}
 use Rattle.moka_maintenance.specs.declared.sweep.Tests.{Tests}
+use Rattle.moka_maintenance.specs.declared.sweep.Sweep.{Sweep}
 use Rattle.moka_maintenance.specs.declared.sweep.Sweep.TheVariants.{Written, Read, Surplus}
 use Rattle.moka_maintenance.specs.Scanning.{AreDropped}
 use Rattle.moka_maintenance.specs.Steps.{Stock, MayRun, AreAllMembers, HasNoSettled, HasUnsettled, IsStepped, after_steps, makes_room}
@@ -28,6 +29,15 @@ module _ {C : Type 0} (reads : C → Instant → C → Type 0) where
   Checks (Some first) None c late d = (late ≡ false) × (d ≡ c)
   Checks (Some first) (Some limit) c late d = (r : Instant) × reads c r d × (late ≡ nat_le limit (r.0 - first.0))
 
+-- after the first of these steps the sweep is done; a whole one came to rest or met an unsettled member
+pub record HasSwept {K V : Type 0} (q : Tests) (sweep : Sweep) (batch : ℕ) (before : Stock K V) (steps : List Choice)
+    (Whole : Type 0) : Type 0 where
+  pub first : List Choice
+  pub second : List Choice
+  pub split : steps ≡ first ++ second
+  pub done : IsDone q sweep batch (length first) (after_steps before first)
+  pub rest : Whole → HasUnsettled (after_steps before first) ⊎ IsAtRest q sweep (after_steps before first)
+
 module _ {K V L P : Type 0} (tells : L → K → V → RemovalCause → L → Type 0)
     (says : P → K → V → Bool → Type 0) (q : Tests) where
   -- one pass, from some predicates to others: what it removed beside the scan, and whether the sweeps and the scan left
@@ -38,8 +48,8 @@ module _ {K V L P : Type 0} (tells : L → K → V → RemovalCause → L → Ty
     pub dropped : AreDropped says after.contents ps qs
     -- timers, the sweep by the last write, the one by the last read, the scan and the sweep of the surplus, each with
     -- its own causes
-    pub in_order : FollowsGrounds (SomeCovers says ps) (tests_in q) batch grounds_of_pass before.contents
-        by.steps
+    pub in_order : FollowsGrounds (SomeCovers says ps) (tests_in q) (NoneCovers says ps) ordered batch grounds_of_pass
+        before.contents by.steps
     pub count : removed ≤ length (removed_by by.steps)
     pub more : left ≡ true → 1 ≤ batch → 1 ≤ removed
     -- beside timers and the scan, each of its steps takes at most a batch of turns
@@ -53,14 +63,9 @@ module _ {K V L P : Type 0} (tells : L → K → V → RemovalCause → L → Ty
     -- unsettled members are passed over up to the last turn
     pub turned : left ≡ true → batch ≤ length by.steps
     pub used : IsDone q Surplus batch (length by.steps) after
-    -- after the first of its steps, the sweep by the last write is done, and came to rest where nothing is left
-    pub writes_swept : (first second : List Choice) × (by.steps ≡ first ++ second)
-        × IsDone q Written batch (length first) (after_steps before first)
-        × (left ≡ false → HasUnsettled (after_steps before first) ⊎ IsAtRest q Written (after_steps before first))
-    -- after more of its steps, the sweep by the last read is so too
-    pub reads_swept : (first second : List Choice) × (by.steps ≡ first ++ second)
-        × IsDone q Read batch (length first) (after_steps before first)
-        × (left ≡ false → HasUnsettled (after_steps before first) ⊎ IsAtRest q Read (after_steps before first))
+    -- the sweep by the last write, and after more of the steps the one by the last read
+    pub writes_swept : HasSwept q Written batch before by.steps (left ≡ false)
+    pub reads_swept : HasSwept q Read batch before by.steps (left ≡ false)
     -- with a batch of 0 more is left wherever a sweep is made
     pub idle : batch ≡ 0 → left ≡ (sweeps_writes q || is_over q.capacity after.contents.access)
     -- without predicates, or with a batch of 0, the scan leaves nothing
@@ -78,9 +83,9 @@ module _ {K V L P : Type 0} (tells : L → K → V → RemovalCause → L → Ty
         (l m : Option L) (c d : C) (passes : ℕ) (left : Bool) : Type 0 where
       pub by : IsStepped tells (MayRun says ps (tests_in q)) before after l m
       pub dropped : AreDropped says after.contents ps qs
-      -- the steps of each pass have their order and their causes
-      pub in_order : FollowsGrounds (SomeCovers says ps) (tests_in q) batch (grounds_of passes)
-          before.contents by.steps
+      -- the steps of each pass have their order and their causes; no predicate that is left covers what a scan spared
+      pub in_order : FollowsGrounds (SomeCovers says ps) (tests_in q) (NoneCovers says qs) ordered batch
+          (grounds_of passes) before.contents by.steps
       pub made : 1 ≤ passes
       pub few : passes ≤ length (removed_by by.steps) + 1
       pub many : length by.steps + length after.contents.access
@@ -105,18 +110,14 @@ module _ {K V L P : Type 0} (tells : L → K → V → RemovalCause → L → Ty
       -- unsettled members are passed over up to the last turn of the last pass and, without predicates, of each
       pub used : IsDone q Surplus batch (length by.steps) after
           × (ps ≡ [] → IsDone q Surplus (passes * batch) (length by.steps) after)
-      -- after some of its steps, the last sweep by the last write is done, and came to rest in a whole run
-      pub writes_swept : (first second : List Choice) × (by.steps ≡ first ++ second)
-          × IsDone q Written batch (length first) (after_steps before first)
-          × (ps ≡ [] → IsDone q Written (passes * batch) (length first) (after_steps before first))
-          × (is_late limit readings ≡ false → 1 ≤ batch → HasUnsettled (after_steps before first)
-          ⊎ IsAtRest q Written (after_steps before first))
-      -- after more of its steps, the last sweep by the last read is so too
-      pub reads_swept : (first second : List Choice) × (by.steps ≡ first ++ second)
-          × IsDone q Read batch (length first) (after_steps before first)
-          × (ps ≡ [] → IsDone q Read (passes * batch) (length first) (after_steps before first))
-          × (is_late limit readings ≡ false → 1 ≤ batch → HasUnsettled (after_steps before first)
-          ⊎ IsAtRest q Read (after_steps before first))
+      -- the last sweep by the last write came to rest in a whole run, and so did the last one by the last read
+      pub writes_swept : HasSwept q Written batch before by.steps ((is_late limit readings ≡ false) × (1 ≤ batch))
+      pub reads_swept : HasSwept q Read batch before by.steps ((is_late limit readings ≡ false) × (1 ≤ batch))
+      -- without predicates, unsettled members are passed over up to the last turn of each pass
+      pub writes_turned : ps ≡ [] → IsDone q Written (passes * batch) (length writes_swept.first)
+          (after_steps before writes_swept.first)
+      pub reads_turned : ps ≡ [] → IsDone q Read (passes * batch) (length reads_swept.first)
+          (after_steps before reads_swept.first)
       -- with a batch of 0 more is left wherever a sweep is made
       pub idle : batch ≡ 0 → left ≡ (sweeps_writes q || is_over q.capacity after.contents.access)
       -- where all its steps make room, each pass but the last of a whole run removed a batch

@@ -66,13 +66,11 @@ module _ {K V L : Type 0} (tells : L → K → V → RemovalCause → L → Type
   -- the operations are applied in order, and then the sketch is enabled where it is due
   pub record ArePrepared (before after : Contents K V) (ns ms : List ℕ) (os : List Ticketed)
       (l m : Option L) : Type 0 where
-    pub moves : List (List ℕ)
+    pub between : Contents K V
+    pub applied : AreApplied tells capacity policy ordered before between ns ms os l m
     -- memory for a longer table of the sketch was refused
     pub is_short : Bool
-    pub may : AreAllMoves capacity policy before os moves
-    pub led : after ≡ with_sketch capacity policy has_weigher is_short (after_writes capacity policy before os moves)
-    pub listed : ordered ≡ true → ms ≡ written_after_writes true capacity policy before ns os moves
-    pub told : Told tells l (left_by_writes capacity policy before os moves) m
+    pub enabled : after ≡ with_sketch capacity policy has_weigher is_short between
 
 -- a number that has kept its row without a record had no record before, and the operation is no removal of it
 abbrev pub LeavesNoRowAfter : {K V S : Type 0} → Operation → Kept K V S → Kept K V S → Type 0

@@ -2,16 +2,17 @@
 -- nothing.
 use Rattle.std.specs.Prelude.{◌≡◌, ℕ, ◌≤◌, nat_le, ◌<◌, nat_lt, Bool, true, false, ◌&&◌, ◌⊎◌, ◌==◌, if◌then◌else◌, List, [], ◌∷◌, ◌++◌, length, Option, Some, None, is_none, slice_get, Contains, MatchBool}
 use Rattle.std.specs.FinMap.{get}
-use Rattle.std.specs.List.{IsDistinct, filter}
+use Rattle.std.specs.List.{IsDistinct}
 use Rattle.moka_parts.specs.declared.notification.RemovalCause.{RemovalCause}
 use Rattle.moka_parts.specs.declared.notification.RemovalCause.TheVariants.{Explicit}
 use Rattle.moka_parts.specs.declared.records.Record.{Record}
 use Rattle.moka_parts.specs.declared.records.Registered.{Registered}
-use Rattle.moka_parts.specs.Records.{Records, is_member, is_settled}
+use Rattle.moka_parts.specs.Records.{is_member, is_settled}
+pub use Rattle.moka_parts.specs.Records.{settled_numbers}
 use Rattle.moka_parts.specs.State.{Contents}
 use Rattle.moka_parts.specs.Visibility.{Covers, SomeCovers, NoneCovers}
 use Rattle.moka_parts.specs.Maintenance.{Choice, Removes, MovesToBack, Drops, Tests, kept_by_choices, AreJustified}
-use Rattle.moka_parts.specs.Grounds.{AreDrops}
+use Rattle.moka_parts.specs.Grounds.{AreDrops, EndsScan}
 use Rattle.moka_parts.specs.Scan.{AreUncovered}
 use Rattle.moka_store.specs.Store.{Kept}
 use Rattle.moka_maintenance.specs.Expelled.{Expels}
@@ -38,10 +39,6 @@ round_from cursor ns = from_cursor cursor ns ++ before_cursor cursor ns
 abbrev pub LeavesSome : List ℕ → List ℕ → Type 0
 LeavesSome [] kept = kept ≡ []
 LeavesSome (n ∷ ns) kept = LeavesSome ns kept ⊎ ((rest : List ℕ) × (kept ≡ n ∷ rest) × LeavesSome ns rest)
-
--- those of the numbers whose records are settled
-abbrev pub settled_numbers : {K V : Type 0} → Records K V → List ℕ → List ℕ
-settled_numbers records ns = filter (λ n. is_settled records n) ns
 
 module _ {K V P : Type 0} (says : P → K → V → Bool → Type 0) where
   -- the predicate covers a record of the map
@@ -154,11 +151,11 @@ module _ {K V L P : Type 0} (tells : L → K → V → RemovalCause → L → Ty
     pub few : length by.steps ≤ looked
     -- without predicates nothing is done
     pub unregistered : ps ≡ [] → (by.steps ≡ []) × (left ≡ false)
-    pub idle : batch ≡ 0 → left ≡ false
+    -- it ends as a pass is to
+    pub ends : old.ordered ≡ true → EndsScan (NoneCovers says ps) batch (length by.steps) (contents_in new)
     -- more is left exactly where a member was looked at and a predicate is left
     pub leaves : left ≡ (nat_lt 0 looked && nat_lt 0 (length qs))
-    -- so only where a predicate is left, and wherever one is beside a settled member
-    pub more : left ≡ true → 0 < length qs
+    -- so wherever a predicate is left beside a settled member
     pub unfinished : old.ordered ≡ true → 1 ≤ batch → 0 < length qs → (left ≡ true) ⊎ HasNoSettled (stock_in new)
     -- with a batch for all members, no predicate is left once every record is settled
     pub whole : old.ordered ≡ true → length old.access ≤ batch → AreAllMembers (stock_in old) → qs ≡ []

@@ -85,9 +85,7 @@ module _ {K V : Type 0} (q : Tests) where
 
   -- the step removes a settled member whose own expiry has come
   abbrev pub MayExpire : Stock K V → Choice → Type 0
-  MayExpire c (Removes n cause) = MayTake (λ _. ⊥) (tests_in q) ByTimer c.contents (Removes n cause)
-  MayExpire c (MovesToBack n) = ⊥
-  MayExpire c (Drops i) = ⊥
+  MayExpire c x = MayTake (λ _. ⊥) (tests_in q) ByTimer c.contents x
 
   -- so many turns are all of the batch, but for whole rounds over members none of which is settled
   abbrev pub AreAllTurns : ℕ → ℕ → Stock K V → Type 0

@@ -1,11 +1,10 @@
 -- What maintenance makes of the timers of a store.
-use Rattle.std.specs.Prelude.{◌≡◌, ℕ, true, ◌<◌, ◌≤◌, ◌⊎◌, Some}
-use Rattle.std.specs.FinMap.{get, insert}
+use Rattle.std.specs.Prelude.{◌≡◌, ℕ, true, ◌<◌, ◌⊎◌, Some}
+use Rattle.std.specs.FinMap.{get}
 use Rattle.moka_parts.specs.declared.records.Record.{Record}
 use Rattle.moka_parts.specs.Time.{moment_of}
 use Rattle.moka_parts.specs.Records.{is_applied, is_member}
 use Rattle.moka_store.specs.Store.{Kept}
-use Rattle.moka_maintenance.specs.Steps.{AddsNoPlace, LeavesNoRow}
 
 module _ {K V : Type 0} where
   -- the timer of each settled member stands at its record's expiry
@@ -44,16 +43,3 @@ module _ {K V : Type 0} where
     pub renewed : (n : ℕ) → IsRenewed n → StandsAtExpiry n new
     pub kept : (n : ℕ) → StandsAtExpiry n old → StandsAtExpiry n new
     pub timers : KeepsTimers old new
-
-  -- the timer of a number that had none is set again behind the moment, or there is still none; then no settled record
-  -- of the number has a moment at which it expires; rows are kept up
-  pub record IsReset {S : Type 0} (now n : ℕ) (old new : Kept K V S) : Type 0 where
-    pub ordered : new.ordered ≡ old.ordered
-    pub timed : new.timed ≡ old.timed
-    pub hasher : new.hasher ≡ old.hasher
-    pub timers : (new.timers ≡ old.timers) ⊎ ((t : ℕ) × (now < t) × (new.timers ≡ insert old.timers n t))
-    pub own : old.timed ≡ true → (r : Record K V) → get new.records n ≡ Some r → is_applied r ≡ true →
-        get new.timers n ≡ moment_of r.expires
-    pub places : AddsNoPlace old new
-    pub rows : LeavesNoRow old new
-    pub room : old.room ≤ new.room

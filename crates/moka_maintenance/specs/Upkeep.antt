@@ -1,6 +1,9 @@
 -- What every step of maintenance keeps of a store.
-use Rattle.std.specs.Prelude.{◌≡◌, ℕ, ◌≤◌, Some}
-use Rattle.std.specs.FinMap.{get}
+use Rattle.std.specs.Prelude.{◌≡◌, ℕ, true, ◌<◌, ◌≤◌, ◌⊎◌, Some}
+use Rattle.std.specs.FinMap.{get, insert}
+use Rattle.moka_parts.specs.declared.records.Record.{Record}
+use Rattle.moka_parts.specs.Time.{moment_of}
+use Rattle.moka_parts.specs.Records.{is_applied}
 use Rattle.moka_store.specs.Store.{Kept}
 use Rattle.moka_maintenance.specs.Steps.{AddsNoPlace, LeavesNoRow}
 use Rattle.moka_maintenance.specs.Timers.{HasNoneDue, KeepsTimers}
@@ -23,3 +26,11 @@ module _ {K V S : Type 0} where
   pub record UpkeepAt (now : ℕ) (old new : Kept K V S) : Type 0 where
     pub upkeep : Upkeep old new
     pub none : HasNoneDue now new
+
+  -- the timer of a number that had none is set again behind the moment, or there is still none; then no settled record
+  -- of the number has a moment at which it expires
+  pub record IsReset (now n : ℕ) (old new : Kept K V S) : Type 0 where
+    pub upkeep : Upkeep old new
+    pub timers : (new.timers ≡ old.timers) ⊎ ((t : ℕ) × (now < t) × (new.timers ≡ insert old.timers n t))
+    pub own : old.timed ≡ true → (r : Record K V) → get new.records n ≡ Some r → is_applied r ≡ true →
+        get new.timers n ≡ moment_of r.expires

@@ -6,8 +6,7 @@ ghost use Rattle.std.specs.FinMap as finite;
 ghost use Rattle.moka_maintenance.specs.Handles.{IsMemberAt};
 ghost use Rattle.moka_maintenance.specs.Steps.{stock_in};
 ghost use Rattle.moka_maintenance.specs.Sweeps.{ExpiresDue};
-ghost use Rattle.moka_maintenance.specs.Timers.{IsReset};
-ghost use Rattle.moka_maintenance.specs.Upkeep.{UpkeepAt};
+ghost use Rattle.moka_maintenance.specs.Upkeep.{IsReset, UpkeepAt};
 
 use crate::expel::expel;
 use crate::sweep::Tests;

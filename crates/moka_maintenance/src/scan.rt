@@ -54,10 +54,10 @@ where
     ensures { IsScanned L.tells P.says invalidator.old batch store.old store.new invalidator.new
         notifier.old notifier.new result }
 {
+    store.invariant_holds();
     if invalidator.is_empty() {
         return false;
     }
-    store.invariant_holds();
     let round = go_round(store, notifier, invalidator, batch);
     if round.is_end {
         drop_idle(store, invalidator);

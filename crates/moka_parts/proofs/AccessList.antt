@@ -1,9 +1,11 @@
 -- The access list after a change: which weight is counted for a number, and that no number stands twice.
-use Rattle.std.proofs.Common.{◌≡◌, refl, ℕ, Bool, true, false, cond, not, ◌==◌, List, [], ◌∷◌, ◌++◌, Option, Some, None, option_map, option_to_list, ap, sym, ◌∙◌, inl, inr, append-nil}
-use Rattle.std.specs.List.{IsDistinct, AllByRecursion}
-use Rattle.moka_parts.specs.declared.records.Member.{Member}
-use Rattle.moka_parts.specs.Records.{member, counted_of, numbers_of, without_member, without_members, to_back, all_to_back}
+use Rattle.std.proofs.Common.{◌≡◌, refl, ℕ, Bool, true, false, cond, not, ◌==◌, List, [], ◌∷◌, ◌++◌, Option, Some, None, option_map, option_to_list, ap, sym, ◌∙◌, inl, inr, append-nil, ◌||◌, is_some, subst, filter, true≢false}
+use Rattle.std.specs.List.{IsDistinct}
+use Rattle.moka_parts.proofs.Types.{Member}
+use Rattle.moka_parts.specs.Records.{member, counted_of, numbers_of, without_member, without_members, to_back, all_to_back, is_listed, is_member, without_number}
 use Rattle.moka_parts.proofs.Maps.{AreApart, same_or_apart, same_by_test, itself_tested}
+use Rattle.std.proofs.lemmas.List.{map-append}
+use Rattle.moka_parts.proofs.WriteList.{once_taken_out, once_pushed}
 
 -- ---- counted weights
 
@@ -19,33 +21,49 @@ counted-append : (k : ℕ) (xs ys : List Member) → counted_of k (xs ++ ys) ≡
 counted-append k [] ys = refl
 counted-append k (a ∷ xs) ys = elim (a.number == k) as (λ b. cond b (Some a.counted) (counted_of k (xs ++ ys)) ≡ or_else (cond b (Some a.counted) (counted_of k xs)) (counted_of k ys)) [ true ↦ refl | false ↦ counted-append k xs ys ]
 
+-- where members leave by a test that answers alike at the number
+counted-filter_same : (n : ℕ) (keep : ℕ → Bool) (b : Bool) → ((k : ℕ) → (k == n) ≡ true → keep k ≡ b) → (xs : List Member) → counted_of n (filter (λ a. keep a.number) xs) ≡ cond b (counted_of n xs) None
+counted-filter_same n keep true alike [] = refl
+counted-filter_same n keep false alike [] = refl
+counted-filter_same n keep b alike (a ∷ xs) = go b (keep a.number) (a.number == n) refl (alike a.number) (counted-filter_same n keep b alike xs)
+  where
+    go : (b stays same : Bool) → (a.number == n) ≡ same → (same ≡ true → stays ≡ b) → counted_of n (filter (λ a. keep a.number) xs) ≡ cond b (counted_of n xs) None →
+        counted_of n (cond stays (a ∷ filter (λ a. keep a.number) xs) (filter (λ a. keep a.number) xs)) ≡ cond b (cond same (Some a.counted) (counted_of n xs)) None
+    go b true false e alike rest = ap (λ t. cond t (Some a.counted) (counted_of n (filter (λ a. keep a.number) xs))) e ∙ rest
+    go b false false e alike rest = rest
+    go true true true e alike rest = ap (λ t. cond t (Some a.counted) (counted_of n (filter (λ a. keep a.number) xs))) e
+    go false false true e alike rest = rest
+    go true false true e alike rest = absurd (true≢false (sym (alike refl)))
+    go false true true e alike rest = absurd (true≢false (alike refl))
+
 -- of the number that is taken out
 pub counted_taken_out : (n : ℕ) (xs : List Member) → counted_of n (without_member n xs) ≡ None
-counted_taken_out n [] = refl
-counted_taken_out n (a ∷ xs) = go (counted_taken_out n xs) (a.number == n) refl
-  where
-    go : counted_of n (without_member n xs) ≡ None → (b : Bool) → (a.number == n) ≡ b → counted_of n (cond (not b) (a ∷ without_member n xs) (without_member n xs)) ≡ None
-    go rest true e = rest
-    go rest false e = ap (λ b. cond b (Some a.counted) (counted_of n (without_member n xs))) e ∙ rest
+counted_taken_out n xs = counted-filter_same n (λ k. not (k == n)) false (λ k same. ap not same) xs
 
 -- of another number
 pub counted_past_taken_out : (n k : ℕ) (xs : List Member) → AreApart k n → counted_of k (without_member n xs) ≡ counted_of k xs
-counted_past_taken_out n k [] apart = refl
-counted_past_taken_out n k (a ∷ xs) apart = go (counted_past_taken_out n k xs apart) (a.number == n) refl
-  where
-    go : counted_of k (without_member n xs) ≡ counted_of k xs → (b : Bool) → (a.number == n) ≡ b → counted_of k (cond (not b) (a ∷ without_member n xs) (without_member n xs)) ≡ cond (a.number == k) (Some a.counted) (counted_of k xs)
-    go rest true e =
-        let other : (a.number == k) ≡ false = ap (λ (x : ℕ). x == k) (same_by_test a.number n e) ∙ apart.back in
-        rest ∙ sym (ap (λ b. cond b (Some a.counted) (counted_of k xs)) other)
-    go rest false e = ap (cond (a.number == k) (Some a.counted)) rest
+counted_past_taken_out n k xs apart = counted-filter_same k (λ m. not (m == n)) true (λ m same. ap (λ x. not (x == n)) (same_by_test m k same) ∙ ap not apart.forth) xs
 
--- what is not counted stays so
+-- with a member more, those that stood there do
+pub still_within : (a : Member) (xs : List Member) (m : ℕ) → is_member m xs ≡ true → is_member m (a ∷ xs) ≡ true
+still_within a xs m h = elim (a.number == m) as (λ b. is_some (cond b (Some a.counted) (counted_of m xs)) ≡ true) [ true ↦ refl | false ↦ h ]
+
+-- what is not counted is not counted in a front
+pub uncounted_front : (n : ℕ) (xs ys : List Member) → counted_of n (xs ++ ys) ≡ None → counted_of n xs ≡ None
+uncounted_front n xs ys absent = go (counted_of n xs) (sym (counted-append n xs ys) ∙ absent)
+  where
+    go : (o : Option ℕ) → or_else o (counted_of n ys) ≡ None → o ≡ None
+    go None e = refl
+    go (Some w) e = cc
+
+-- nor where some leave
+pub uncounted_filtered : (keep : ℕ → Bool) (n : ℕ) (xs : List Member) → counted_of n xs ≡ None → counted_of n (filter (λ a. keep a.number) xs) ≡ None
+uncounted_filtered keep n xs absent =
+    counted-filter_same n keep (keep n) (λ k same. ap keep (same_by_test k n same)) xs ∙ elim (keep n) as (λ b. cond b (counted_of n xs) None ≡ None) [ true ↦ absent | false ↦ refl ]
+
+-- nor where one does
 pub uncounted_taken_out : (n k : ℕ) (xs : List Member) → counted_of k xs ≡ None → counted_of k (without_member n xs) ≡ None
-uncounted_taken_out n k xs absent =
-    elim (same_or_apart k n) [
-      | inl same ↦ ap (λ x. counted_of x (without_member n xs)) same ∙ counted_taken_out n xs
-      | inr apart ↦ counted_past_taken_out n k xs apart ∙ absent
-    ]
+uncounted_taken_out n k xs absent = uncounted_filtered (λ m. not (m == n)) k xs absent
 
 -- of a number that is put at the back
 pub counted_pushed : (n w : ℕ) (xs : List Member) → counted_of n xs ≡ None → counted_of n (xs ++ member n w ∷ []) ≡ Some w
@@ -94,29 +112,26 @@ absent_taken_out n (a ∷ xs) absent = go (absent_taken_out n xs) (a.number == n
 
 -- ---- no number twice
 
-all_taken_out : (P : ℕ → Type 0) (n : ℕ) (xs : List Member) → AllByRecursion P (numbers_of xs) → AllByRecursion P (numbers_of (without_member n xs))
-all_taken_out P n [] h = tt
-all_taken_out P n (a ∷ xs) h = elim (not (a.number == n)) as (λ b. AllByRecursion P (numbers_of (cond b (a ∷ without_member n xs) (without_member n xs)))) [ true ↦ (h.0, all_taken_out P n xs h.1) | false ↦ all_taken_out P n xs h.1 ]
+-- the numbers of the members that are left
+numbers_taken_out : (n : ℕ) (xs : List Member) → numbers_of (without_member n xs) ≡ without_number n (numbers_of xs)
+numbers_taken_out n [] = refl
+numbers_taken_out n (a ∷ xs) = elim (not (a.number == n)) as (λ b. numbers_of (cond b (a ∷ without_member n xs) (without_member n xs)) ≡ cond b (a.number ∷ without_number n (numbers_of xs)) (without_number n (numbers_of xs))) [
+  | true ↦ ap (λ ns. a.number ∷ ns) (numbers_taken_out n xs)
+  | false ↦ numbers_taken_out n xs
+]
+
+-- a number is listed where it is counted
+pub listed_counted : (n : ℕ) (xs : List Member) → is_listed n (numbers_of xs) ≡ is_member n xs
+listed_counted n [] = refl
+listed_counted n (a ∷ xs) = elim (a.number == n) as (λ b. (b || is_listed n (numbers_of xs)) ≡ is_some (cond b (Some a.counted) (counted_of n xs))) [ true ↦ refl | false ↦ listed_counted n xs ]
 
 -- where a number is taken out
 pub distinct_taken_out : (n : ℕ) (xs : List Member) → IsDistinct (◌==◌) (numbers_of xs) → IsDistinct (◌==◌) (numbers_of (without_member n xs))
-unfolding IsDistinct
-distinct_taken_out n [] h = tt
-distinct_taken_out n (a ∷ xs) h = elim (not (a.number == n)) as (λ b. IsDistinct (◌==◌) (numbers_of (cond b (a ∷ without_member n xs) (without_member n xs)))) [ true ↦ (all_taken_out (λ y. (a.number == y) ≡ false) n xs h.0, distinct_taken_out n xs h.1) | false ↦ distinct_taken_out n xs h.1 ]
-
-all_pushed : (P : ℕ → Type 0) (n w : ℕ) (xs : List Member) → AllByRecursion P (numbers_of xs) → P n → AllByRecursion P (numbers_of (xs ++ member n w ∷ []))
-all_pushed P n w [] h p = (p, tt)
-all_pushed P n w (a ∷ xs) h p = (h.0, all_pushed P n w xs h.1 p)
+distinct_taken_out n xs h = subst (IsDistinct (◌==◌)) (sym (numbers_taken_out n xs)) (once_taken_out n (numbers_of xs) h)
 
 -- where a new number is put at the back
 pub distinct_pushed : (n w : ℕ) (xs : List Member) → IsDistinct (◌==◌) (numbers_of xs) → counted_of n xs ≡ None → IsDistinct (◌==◌) (numbers_of (xs ++ member n w ∷ []))
-unfolding IsDistinct
-distinct_pushed n w [] h absent = (tt, tt)
-distinct_pushed n w (a ∷ xs) h absent = go (distinct_pushed n w xs h.1) (a.number == n) refl absent
-  where
-    go : (counted_of n xs ≡ None → IsDistinct (◌==◌) (numbers_of (xs ++ member n w ∷ []))) → (b : Bool) → (a.number == n) ≡ b → cond b (Some a.counted) (counted_of n xs) ≡ None → AllByRecursion (λ y. (a.number == y) ≡ false) (numbers_of (xs ++ member n w ∷ [])) × IsDistinct (◌==◌) (numbers_of (xs ++ member n w ∷ []))
-    go rest true e absent = cc
-    go rest false e absent = (all_pushed (λ y. (a.number == y) ≡ false) n w xs h.0 e, rest absent)
+distinct_pushed n w xs h absent = subst (IsDistinct (◌==◌)) (sym (map-append (λ (a : Member). a.number) xs (member n w ∷ []))) (once_pushed n (numbers_of xs) h (listed_counted n xs ∙ ap is_some absent))
 
 -- where a member goes to the back
 pub distinct-to_back : (n : ℕ) (xs : List Member) → IsDistinct (◌==◌) (numbers_of xs) → IsDistinct (◌==◌) (numbers_of (to_back n xs))

@@ -2,19 +2,17 @@
 -- is.
 use Rattle.std.proofs.Common.{◌≡◌, refl, ℕ, ◌+◌, ◌≤◌, Bool, true, false, ◌==◌, ◌||◌, min, nat_le, List, [], ◌∷◌, ◌++◌, map, Option, Some, None, is_some, ap, sym, ◌∙◌, subst, arith, true≢false, if◌then◌else◌}
 use Rattle.std.specs.FinMap.{get}
-use Rattle.moka_parts.specs.declared.records.Record.{Record}
-use Rattle.moka_parts.specs.declared.records.Operation.{Operation}
-use Rattle.moka_parts.specs.declared.records.Operation.TheVariants.{Upsert, Removal}
+use Rattle.moka_parts.proofs.Types.{Record, Operation, Upsert, Removal, State, Freedom}
 use Rattle.moka_parts.specs.Time.{greatest, deadline, has_passed, is_before, moment_of}
 use Rattle.moka_parts.specs.Records.{counted_of, is_member, is_applied, is_listed}
-use Rattle.moka_parts.specs.State.{State, keeps_write_list}
+use Rattle.moka_parts.specs.State.{keeps_write_list}
 use Rattle.moka_parts.specs.Visibility.{is_past_live, is_written_before}
-use Rattle.moka_parts.specs.Maintenance.{Terms, Course, Freedom, AreFree, after_run, tests_of}
-use Rattle.moka_parts.specs.Settling.{IsSound, IsConsistent, IsConsistentState, IsWaitingIn, AreRising, IsWhole, IsAllSent}
-use Rattle.moka_parts.specs.Order.{waiting_by_ticket, IsInOrder, AgesOut, write_list_at_end, IsAtRestByWrite}
-use Rattle.moka_parts.proofs.Maps.{same_by_test, itself_tested, same_by_order}
+use Rattle.moka_parts.specs.Maintenance.{AreFree, after_run, tests_of}
+use Rattle.moka_parts.specs.Settling.{IsSound, IsConsistent, IsConsistentState, IsWaitingIn, AreRising, IsAllSent}
+use Rattle.moka_parts.specs.Order.{waiting_by_ticket, IsInOrder, write_list_at_end, IsAtRestByWrite}
+use Rattle.moka_parts.proofs.Maps.{same_by_test, itself_tested}
 use Rattle.moka_parts.proofs.RunKeepsSound.{run_kept}
-use Rattle.moka_parts.proofs.AtEnd.{nothing_waits}
+use Rattle.moka_parts.proofs.AtEnd.{nothing_waits, all_applied}
 use Rattle.moka_parts.proofs.Rises.{Rises}
 use Rattle.moka_parts.proofs.InOrder.{settled_moment, settled_at, waiting_at}
 use Rattle.moka_parts.proofs.OrderedStates.{rises_from, run_in_order}
@@ -25,7 +23,7 @@ module _ {K V : Type 0} (Waits : Operation → Type 0) (none : (o : Operation) �
   -- a record in the map is a settled member
   record_settled : (n : ℕ) (r : Record K V) (counted : Option ℕ) → IsSound Waits n (Some r) counted → (is_applied r ≡ true) × (is_some counted ≡ true)
   record_settled n r None s = let p = s.pending (s.outside refl) in absurd (none (Upsert n r.generation r.weight p.0) p.1)
-  record_settled n r (Some w) s = (same_by_order r.applied r.generation s.applied (λ below. let p = s.pending below in none (Upsert n r.generation r.weight p.0) p.1), refl)
+  record_settled n r (Some w) s = (all_applied Waits n r (Some w) s none, refl)
 
 -- ---- moments behind the first
 
@@ -88,13 +86,7 @@ module _ {K V X P W : Type 0} (t : State K V X P W) (now : ℕ) (Waits : Operati
           raise None w xs e h = cc
           raise (Some y) w xs e h = let same : y ≡ w = cc in (omega arith, h.1)
 
--- a run from a state in order, that leaves such a front once all is sent
-pub aged_out : {K V X P W : Type 0} (says : P → K → V → Bool → Type 0) (s : State K V X P W) (terms : Terms) (course : Course) (ns : List ℕ) (ch : Freedom) → IsConsistentState s → AreRising s.outstanding s.writes → keeps_write_list s.settings ≡ true → AreFree says s terms.now ch → IsInOrder s ns →
-    (IsWhole s terms course → IsAllSent s → IsAtRestByWrite (tests_of s terms.now) (after_run s ch).records (write_list_at_end s ns ch)) → AgesOut s terms course (after_run s ch)
-aged_out says s terms course ns ch h rising kept free o front = record {
-  live = λ whole all _ n r there. (last whole all n r there).0;
-  invalid = λ whole all _ n r there. (last whole all n r there).1;
-}
-  where
-    last : IsWhole s terms course → IsAllSent s → (n : ℕ) (r : Record _ _) → get (after_run s ch).records n ≡ Some r → (is_past_live s.settings r terms.now ≡ false) × (is_written_before s.invalid_before r ≡ false)
-    last whole all n r there = all_last (after_run s ch) terms.now (IsWaitingIn s.outstanding []) (nothing_waits s.outstanding all) (run_kept s ch h) (write_list_at_end s ns ch) (run_in_order says s terms.now ns ch kept free rising o) (front whole all) n r there
+-- after a run from a state in order, that leaves such a front once all is sent, no record is
+pub last_after_run : {K V X P W : Type 0} (says : P → K → V → Bool → Type 0) (s : State K V X P W) (now : ℕ) (ns : List ℕ) (ch : Freedom) → IsConsistentState s → AreRising s.outstanding s.writes → keeps_write_list s.settings ≡ true → AreFree says s now ch → IsInOrder s ns → IsAllSent s →
+    IsAtRestByWrite (tests_of s now) (after_run s ch).records (write_list_at_end s ns ch) → (n : ℕ) (r : Record K V) → get (after_run s ch).records n ≡ Some r → (is_past_live s.settings r now ≡ false) × (is_written_before s.invalid_before r ≡ false)
+last_after_run says s now ns ch h rising kept free o all front n r there = all_last (after_run s ch) now (IsWaitingIn s.outstanding []) (nothing_waits s.outstanding all) (run_kept s ch h) (write_list_at_end s ns ch) (run_in_order says s now ns ch kept free rising o) front n r there

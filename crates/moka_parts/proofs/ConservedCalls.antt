@@ -1,35 +1,23 @@
 -- Where a listener is set, every call tells each value that leaves the map in it, once.
-use Rattle.std.proofs.Common.{◌≡◌, refl, ℕ, Bool, true, false, List, [], ◌∷◌, ◌++◌, Option, Some, None, Result, Ok, Err, ap, sym, ◌∙◌, subst, append-nil, MatchBool, inl, inr}
-use Rattle.std.specs.Prelude.{IsPermutation}
+use Rattle.std.proofs.Common.{◌≡◌, refl, ℕ, Bool, true, List, [], ◌∷◌, ◌++◌, Option, Some, None, Result, Ok, Err, ap, sym, ◌∙◌, subst, append-nil, inl, inr, IsPermutation}
 use Rattle.std.specs.Cmp.{IsEquivalence}
 use Rattle.std.proofs.lemmas.List.Sorted.{IsPermutation-refl, IsPermutation-sym, IsPermutation-trans, IsPermutation-map, IsPermutation-to_front}
 use Rattle.std.specs.FinMap.{insert, remove, values}
-use Rattle.moka_parts.specs.declared.policy.Instant.{Instant}
-use Rattle.moka_parts.specs.declared.records.Record.{Record}
-use Rattle.moka_parts.specs.declared.calls.Ticket.{Ticket}
-use Rattle.moka_parts.specs.declared.calls.KvEntry.{KvEntry}
-use Rattle.moka_parts.specs.declared.error.OutOfMemory.{OutOfMemory}
-use Rattle.moka_parts.specs.declared.error.InsertRefused.{InsertRefused}
-use Rattle.moka_parts.specs.declared.calls.Call.{Call}
+use Rattle.moka_parts.proofs.Types.{Instant, Record, Ticket, KvEntry, OutOfMemory, InsertRefused, Call, Reply, Notice, State, Settings, Meaning, Events, Terms, Course}
 use Rattle.moka_parts.specs.declared.calls.Call.TheVariants as call
-use Rattle.moka_parts.specs.declared.calls.Reply.{Reply}
 use Rattle.moka_parts.specs.declared.calls.Reply.TheVariants as reply
-use Rattle.moka_parts.specs.Records.{Notice, when_listening, record_of_key}
-use Rattle.moka_parts.specs.State.{State, Settings, Meaning, Events, is_disabled}
-use Rattle.moka_parts.specs.Maintenance.{Terms, Course, Freedom, RunsBy, DoesNothing, MaintenanceRun, left_in_run}
+use Rattle.moka_parts.specs.Records.{when_listening, record_of_key}
+use Rattle.moka_parts.specs.Maintenance.{MaintenanceRun, left_in_run}
 use Rattle.moka_parts.specs.Settling.{IsWellNumbered}
 use Rattle.moka_parts.specs.Calls.{no_events, Unchanged, new_record, updated_record, InsertsAt, InsertStep, RemovesAt, RemoveStep, hit_record, after_hit}
 use Rattle.moka_parts.specs.Runs.{CallStep}
 use Rattle.moka_parts.specs.Laws.{values_of, values_put, values_handed, values_told, ConservesValues, TellsEachOnce}
 use Rattle.moka_parts.proofs.Values.{values_inserted, values_replaced, values_removed}
 use Rattle.moka_parts.proofs.Conserved.{told, Splits, splits_itself, splits_on, splits_updated, tells_what_leaves}
-use Rattle.moka_parts.proofs.EachCall.{IsPlain, IsKept, each_call}
+use Rattle.moka_parts.proofs.EachCall.{IsNoWrite, IsKept, each_call}
 use Rattle.moka_parts.proofs.CallsKeep.{next_number_free, record_at_its_number}
 use Rattle.moka_parts.proofs.StepsKeep.{call_keeps}
-
-listening_tells : {N : Type 0} (b : Bool) (notices : List N) → b ≡ true → when_listening b notices ≡ notices
-listening_tells true notices e = refl
-listening_tells false notices e = cc
+use Rattle.moka_parts.proofs.Kept.{run_cases}
 
 -- the state after splits what was before, and the settings stay
 pub record Follows {K V X P W : Type 0} (s : State K V X P W) (notices : List (Notice K V)) (t : State K V X P W) : Type 0 where
@@ -43,29 +31,24 @@ module _ {K V X P W : Type 0} where
     settings = ap (λ (x : State K V X P W). x.settings) same;
   }
 
-  module _ (eq : K → K → Bool) (says : P → K → V → Bool → Type 0) where
-    run_follows : (s t : State K V X P W) (terms : Terms) (course : Course) (notices : List (Notice K V)) → s.settings.listening ≡ true → MaintenanceRun says s terms course notices t → Follows s notices t
-    run_follows s t terms course notices on run = go (is_disabled s.capacity) (run.0)
-      where
-        go : (b : Bool) → MatchBool b (DoesNothing s course notices t) ((ch : Freedom) × RunsBy says s terms ch course notices t × Unit {0}) → Follows s notices t
-        go true (same, none, nothing) = record { splits = rw (same, none) (splits_itself s.records); settings = ap (λ (x : State K V X P W). x.settings) same }
-        go false (ch, by, done) =
-            let tells : notices ≡ left_in_run s ch = by.2 ∙ listening_tells s.settings.listening (left_in_run s ch) on in
-            record {
-              splits = rw tells (subst (λ (x : State K V X P W). Splits s.records (left_in_run s ch) x.records) (sym by.1) (tells_what_leaves s ch));
-              settings = ap (λ (x : State K V X P W). x.settings) by.1;
-            }
+  run_follows : (says : P → K → V → Bool → Type 0) (s t : State K V X P W) (terms : Terms) (course : Course) (notices : List (Notice K V)) → s.settings.listening ≡ true → MaintenanceRun says s terms course notices t → Follows s notices t
+  run_follows says s t terms course notices on run = run_cases (Follows s notices t) s t _ says terms course notices
+      (λ off nothing. record { splits = rw (nothing.0, nothing.1) (splits_itself s.records); settings = ap (λ (x : State K V X P W). x.settings) nothing.0 })
+      (λ ch enabled by done. let tells : notices ≡ left_in_run s ch = by.2 ∙ ap (λ b. when_listening b (left_in_run s ch)) on in record {
+        splits = rw tells (subst (λ (x : State K V X P W). Splits s.records (left_in_run s ch) x.records) (sym by.1) (tells_what_leaves s ch));
+        settings = ap (λ (x : State K V X P W). x.settings) by.1;
+      }) run.0
 
 -- ---- calls that are no insert and no removal
 
 module _ {K V X L P W C I : Type 0} (m : Meaning K V X L P W C I) where
-  stays_followed : (s : State K V X P W) (c : Call K V P) → IsWellNumbered m.eq s → IsPlain c → IsKept m (Follows s []) (Follows s []) s c
+  stays_followed : (s : State K V X P W) (c : Call K V P) → IsWellNumbered m.eq s → IsNoWrite c → IsKept m (Follows s []) (Follows s []) s c
   stays_followed s c h plain = record {
     begins = itself;
     left = itself;
-    inserted = λ key hash value now w is on absent. absurd (subst IsPlain is plain);
-    replaced = λ r key hash value now w is found. absurd (subst IsPlain is plain);
-    removed = λ key hash now r is found. absurd (subst IsPlain is plain);
+    inserted = λ key hash value now w is on absent. absurd (subst IsNoWrite is plain);
+    replaced = λ r key hash value now w is found. absurd (subst IsNoWrite is plain);
+    removed = λ key hash now r is found. absurd (subst IsNoWrite is plain);
     sent = λ ticket o is there room. record { splits = itself.splits; settings = refl };
     hit = λ key r now moment found visible.
         let after : Follows s [] (after_hit m.read s r now) = record { splits = splits_updated s.records r.number r (hit_record m.read s r now) (record_at_its_number m.eq s key r h found) refl; settings = refl } in
@@ -79,10 +62,10 @@ module _ {K V X L P W C I : Type 0} (m : Meaning K V X L P W C I) where
       itself : Follows s [] s
       itself = follows_itself s s no_events (refl, refl)
 
-  plain_follows : (s t : State K V X P W) (c : Call K V P) (r : Reply K V P) (e : Events K V) → IsPlain c → s.settings.listening ≡ true → IsWellNumbered m.eq s → CallStep m (MaintenanceRun m.says) s c r e t → Follows s e.notices t
+  plain_follows : (s t : State K V X P W) (c : Call K V P) (r : Reply K V P) (e : Events K V) → IsNoWrite c → s.settings.listening ≡ true → IsWellNumbered m.eq s → CallStep m (MaintenanceRun m.says) s c r e t → Follows s e.notices t
   plain_follows s t c r e plain on h step = elim (each_call m (MaintenanceRun m.says) (MaintenanceRun m.says) (Follows s []) (Follows s []) s t c r e (stays_followed s c h plain) step) [
     | inl x ↦
-        let f = run_follows m.eq m.says x.from x.mid x.terms x.course e.notices (ap (λ (y : Settings X W). y.listening) x.begins.settings ∙ on) x.run in
+        let f = run_follows m.says x.from x.mid x.terms x.course e.notices (ap (λ (y : Settings X W). y.listening) x.begins.settings ∙ on) x.run in
         record {
           splits = splits_on s.records x.from.records t.records [] e.notices x.begins.splits (subst (λ (y : State K V X P W). Splits x.from.records e.notices y.records) (sym x.ends) f.splits);
           settings = ap (λ (y : State K V X P W). y.settings) x.ends ∙ f.settings ∙ x.begins.settings;
@@ -142,30 +125,15 @@ module _ {K V X L P W C I : Type 0} (m : Meaning K V X L P W C I) where
 
   -- ---- every call
 
-  plain_conserves : (s t : State K V X P W) (c : Call K V P) (r : Reply K V P) (e : Events K V) → IsPlain c → values_put c r ≡ [] → values_handed r ≡ [] → values_told c e.notices ≡ told e.notices → s.settings.listening ≡ true → IsWellNumbered m.eq s → CallStep m (MaintenanceRun m.says) s c r e t → Conserves s c r e t
-  plain_conserves s t c r e plain put handed tells on h step = of_follows s t c r e put handed tells (plain_follows m s t c r e plain on h step)
-
   -- each call of the reference cache
   pub call_conserves : (s t : State K V X P W) (c : Call K V P) (r : Reply K V P) (e : Events K V) → s.settings.listening ≡ true → IsWellNumbered m.eq s → CallStep m (MaintenanceRun m.says) s c r e t → Conserves s c r e t
   call_conserves s t (call.Insert key hash value now) (reply.Insert a) e on h step = insert_conserves s t key hash value now a e on h step.1
   call_conserves s t (call.Insert key hash value now) (reply.Disabled k v) e on h step = of_follows s t _ _ e refl refl refl (follows_itself s t e step.3)
   call_conserves s t (call.Remove key hash now) (reply.Remove removed tells) e on h step = remove_conserves s t key hash now removed tells e h step.0
-  call_conserves s t (call.Send ticket) (reply.Send a) e on h step = plain_conserves s t _ _ e tt refl refl refl on h step
-  call_conserves s t (call.Get key hash need_key now) (reply.Get a) e on h step = plain_conserves s t _ _ e tt refl refl refl on h step
-  call_conserves s t (call.GetUnrecorded key hash now) (reply.GetUnrecorded a) e on h step = plain_conserves s t _ _ e tt refl refl refl on h step
-  call_conserves s t (call.Contains key hash now) (reply.Contains shown) e on h step = plain_conserves s t _ _ e tt refl refl refl on h step
-  call_conserves s t (call.Key key hash) (reply.Key a) e on h step = plain_conserves s t _ _ e tt refl refl refl on h step
-  call_conserves s t (call.Scan key now) (reply.Scan a) e on h step = plain_conserves s t _ _ e tt refl refl refl on h step
-  call_conserves s t (call.InvalidateAll now) reply.InvalidateAll e on h step = plain_conserves s t _ _ e tt refl refl refl on h step
-  call_conserves s t (call.InvalidateIf predicate now) (reply.InvalidateIf a) e on h step = plain_conserves s t _ _ e tt refl refl refl on h step
-  call_conserves s t (call.Run now limit repeats batch) (reply.Run more) e on h step = plain_conserves s t _ _ e tt refl refl refl on h step
-  call_conserves s t (call.RunIfDue now) reply.RunIfDue e on h step = plain_conserves s t _ _ e tt refl refl refl on h step
-  call_conserves s t call.DisableAutoRun reply.DisableAutoRun e on h step = plain_conserves s t _ _ e tt refl refl refl on h step
-  call_conserves s t (call.Keys segment) (reply.Keys a) e on h step = plain_conserves s t _ _ e tt refl refl refl on h step
-  call_conserves s t call.Report (reply.Report count weight predicates) e on h step = plain_conserves s t _ _ e tt refl refl refl on h step
-  call_conserves s t call.Pending (reply.Pending handed oldest writes reads) e on h step = plain_conserves s t _ _ e tt refl refl refl on h step
-  call_conserves s t (call.SetCapacity capacity) (reply.SetCapacity a) e on h step = plain_conserves s t _ _ e tt refl refl refl on h step
-  call_conserves s t c r e on h step = absurd step
+  call_conserves s t (call.Insert key hash value now) r e on h step = absurd step
+  call_conserves s t (call.Remove key hash now) r e on h step = absurd step
+  call_conserves s t c (reply.Remove removed tells) e on h step = absurd step
+  call_conserves s t c r e on h step = of_follows s t c r e refl refl refl (plain_follows m s t c r e tt on h step)
 
   -- every list of calls
   pub tells_each_once : IsEquivalence m.eq → TellsEachOnce m

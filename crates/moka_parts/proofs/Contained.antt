@@ -1,17 +1,13 @@
 -- Laws that follow from the definitions alone.
 use Rattle.std.proofs.Common.{◌≡◌, refl, ℕ, Bool, true, false, List, [], ◌∷◌, Option, Some, None, Result, Ok, Err, ap, sym, ◌∙◌, inl, inr, true≢false, MatchBool}
-use Rattle.moka_parts.specs.declared.records.Record.{Record}
-use Rattle.moka_parts.specs.declared.records.Registered.{Registered}
-use Rattle.moka_parts.specs.declared.error.OutOfMemory.{OutOfMemory}
-use Rattle.moka_parts.specs.declared.calls.Entry.{Entry}
+use Rattle.moka_parts.proofs.Types.{Record, Registered, OutOfMemory, Entry, Notice, State, Events, Terms, Course}
 use Rattle.std.specs.FinMap.{empty}
-use Rattle.moka_parts.specs.Records.{Notice, record_of_key}
-use Rattle.moka_parts.specs.State.{State, Events, is_disabled}
+use Rattle.moka_parts.specs.Records.{record_of_key}
+use Rattle.moka_parts.specs.State.{is_disabled}
 use Rattle.moka_parts.specs.Visibility.{IsVisible, IsHidden, IsShown, SomeCovers, NoneCovers}
-use Rattle.moka_parts.specs.Maintenance.{Terms, Course}
-use Rattle.moka_parts.specs.Calls.{GetsAt, Unchanged}
+use Rattle.moka_parts.specs.Calls.{GetsAt, Unchanged, PeeksAt, hit_record}
 use Rattle.moka_parts.proofs.Lookup.{record_of_key_empty}
-use Rattle.moka_parts.specs.Laws.{GetsWhatIsContained, is_found, is_answered}
+use Rattle.moka_parts.specs.Laws.{GetsWhatIsContained, is_found, is_answered, LeavesNoTrace, PeeksQuietly}
 
 not_both_cover : {K V P : Type 0} (says : P → K → V → Bool → Type 0) (ps : List (Registered P)) (r : Record K V) → SomeCovers says ps r → NoneCovers says ps r → ⊥
 not_both_cover says [] r a b = a
@@ -52,3 +48,18 @@ module _ {K V X P W : Type 0} (says : P → K → V → Bool → Type 0) where
           | true ↦ λ off g. ap is_found (g.0) ∙ sym (nothing_shown eq s key now shown (well.disabled off).no_records c)
           | false ↦ λ on g. found_at s (record_of_key eq s.records key) hash need_key now a e t shown g c ok
         ] refl g
+
+module _ {K V X P : Type 0} (W : Type 0) (eq : K → K → Bool) (says : P → K → V → Bool → Type 0) (read : X → K → V → ℕ → Option ℕ → ℕ → Option ℕ) where
+  -- a get that records nothing leaves no trace
+  pub peeks_quietly : PeeksQuietly W eq says read
+  peeks_quietly s key ignored now a t step = go (is_disabled s.capacity) step
+    where
+      at : (o : Option (Record K V)) (a : Result (Option V) OutOfMemory) → record_of_key eq s.records key ≡ o → PeeksAt says read s o ignored now a t → LeavesNoTrace eq s key t
+      at None a found (none, same) = inl same
+      at (Some r) (Ok None) found (missed, same) = inl same
+      at (Some r) (Ok (Some value)) found (hit, is, same) = inr (r, (hit_record read s r now).read, (hit_record read s r now).expires, found, same)
+      at (Some r) (Err x) found (hit, same) = inl same
+
+      go : (b : Bool) → MatchBool b ((a ≡ Ok None) × (t ≡ s)) (PeeksAt says read s (record_of_key eq s.records key) ignored now a t) → LeavesNoTrace eq s key t
+      go true (none, same) = inl same
+      go false step = at (record_of_key eq s.records key) a refl step

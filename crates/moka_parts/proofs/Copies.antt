@@ -1,12 +1,9 @@
 -- Where clones equal what was cloned, what is handed out is the answer itself.
 use Rattle.std.proofs.Common.{◌≡◌, Bool, true, false, List, [], ◌∷◌, Option, Some, None, Result, Ok, Err, inl, inr, ap, sym, subst, ◌∙◌}
-use Rattle.moka_parts.specs.declared.calls.KvEntry.{KvEntry}
-use Rattle.moka_parts.specs.declared.error.OutOfMemory.{OutOfMemory}
-use Rattle.moka_parts.specs.declared.policy.Instant.{Instant}
+use Rattle.moka_parts.proofs.Types.{KvEntry, OutOfMemory, Instant, Notice, Settings}
 use Rattle.moka_parts.specs.Calls.{NotifyStep}
 use Rattle.moka_parts.specs.Copies.{ClonesAreEqual, IsCopy, IsCopiedAnswer, IsEntryCopy, IsKvEntryCopy, NotifiesOfCopy}
-use Rattle.moka_parts.specs.Records.{Notice, when_listening}
-use Rattle.moka_parts.specs.State.{Settings}
+use Rattle.moka_parts.specs.Records.{when_listening}
 
 module _ {A : Type 0} (is_clone : A → A → Type 0) (equal : ClonesAreEqual is_clone) where
   pub copy-same : (a b : Option A) → IsCopy is_clone a b → b ≡ a

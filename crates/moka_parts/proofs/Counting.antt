@@ -1,60 +1,82 @@
 -- A list of members and a map that have the same numbers have as many, and the same weight if each weighs the same in
 -- both.
-use Rattle.std.proofs.Common.{◌≡◌, refl, ℕ, ◌+◌, true, false, cond, ◌==◌, List, [], ◌∷◌, length, Option, Some, None, option_map, is_some, ap, sym, ◌∙◌, inl, inr, arith, true≢false}
-use Rattle.std.specs.List.{IsDistinct, AllByRecursion, sum_by}
+use Rattle.std.proofs.Common.{◌≡◌, refl, ℕ, ◌+◌, true, cond, ◌==◌, List, [], ◌∷◌, length, Option, Some, None, option_map, is_some, ap, sym, ◌∙◌, inl, inr, arith, nat_cmp, ◌≤◌, ◌<◌, false, map, T, subst, ◌⊎◌, Contains, length-append, ◌++◌}
+use Rattle.std.specs.List.{IsDistinct, sum_by, AllByRecursion, list_any}
 use Rattle.std.proofs.lemmas.List.Sums.{sum_by-cons}
 use Rattle.std.proofs.lemmas.List.Sorted.{sum_by-IsPermutation}
-use Rattle.std.specs.Ordering.{nat_cmp}
-use Rattle.std.specs.FinMap.{get, remove, values, len, len-empty}
-use Rattle.moka_parts.specs.declared.records.Record.{Record}
-use Rattle.moka_parts.specs.declared.records.Member.{Member}
-use Rattle.moka_parts.specs.Records.{Records, counted_of, is_member, numbers_of, total_weight}
+use Rattle.std.specs.FinMap.{get, remove, values, len, keys, entries, entries_sorted, len-entries, contains_key-keys, is_sorted}
+use Rattle.moka_parts.proofs.Types.{Record, Member, Records}
+use Rattle.moka_parts.specs.Records.{counted_of, is_member, numbers_of, total_weight, is_listed}
 use Rattle.moka_parts.specs.Exact.{AreExactMembers, weight_of_records}
-use Rattle.moka_parts.proofs.Maps.{AreApart, same_or_apart, itself_tested, get_removed, get_past_remove}
+use Rattle.moka_parts.proofs.Maps.{AreApart, same_or_apart, itself_tested, get_removed, get_past_remove, apart_below, numbers_alike}
 use Rattle.moka_parts.proofs.Options.{none_by_test}
-use Rattle.moka_parts.proofs.Values.{values_removed, len_removed, empty_map, values-empty}
-
--- a number that differs from all is not counted
-uncounted : (n : ℕ) (xs : List Member) → AllByRecursion (λ y. (n == y) ≡ false) (numbers_of xs) → counted_of n xs ≡ None
-uncounted n [] h = refl
-uncounted n (a ∷ xs) h = elim (same_or_apart a.number n) [
-  | inl same ↦ absurd (true≢false (sym (itself_tested n) ∙ sym (ap (λ y. n == y) same) ∙ h.0))
-  | inr apart ↦ ap (λ b. cond b (Some a.counted) (counted_of n xs)) apart.forth ∙ uncounted n xs h.1
-]
+use Rattle.moka_parts.proofs.Values.{values_removed, empty_map, values-empty}
+use Rattle.moka_parts.proofs.AccessList.{listed_counted}
+use Rattle.moka_parts.proofs.WriteList.{unlisted_all, turned}
+use Rattle.std.proofs.lemmas.Map.Made.{length-le_from_is_member}
+use Rattle.std.proofs.lemmas.Map.Views.{list_any-from_Contains}
+use Rattle.std.proofs.lemmas.List.Folds.{list_any-append}
+use Rattle.std.proofs.lemmas.List.{length-map}
+use Rattle.std.proofs.lemmas.Bool.{or_left, or_right}
+use Rattle.std.specs.Cmp.{unsigned_tied}
+use Rattle.moka_parts.proofs.Entries.{all_above}
+use Rattle.moka_parts.proofs.Lookup.{left_part, right_part}
+use Rattle.std.proofs.lemmas.Map.Keys.{IsDistinct-head, IsDistinct-tail}
 
 -- the first number does not stand again
 pub front_once : (a : Member) (xs : List Member) → IsDistinct (◌==◌) (numbers_of (a ∷ xs)) → counted_of a.number xs ≡ None
-unfolding IsDistinct
-front_once a xs h = uncounted a.number xs h.0
+front_once a xs h = none_by_test (counted_of a.number xs) (sym (listed_counted a.number xs) ∙ unlisted_all a.number (numbers_of xs) (IsDistinct-head (◌==◌) a.number (numbers_of xs) h))
 
 -- the others stand once
 pub rest_once : (a : Member) (xs : List Member) → IsDistinct (◌==◌) (numbers_of (a ∷ xs)) → IsDistinct (◌==◌) (numbers_of xs)
-unfolding IsDistinct
-rest_once a xs h = h.1
+rest_once a xs h = IsDistinct-tail (◌==◌) a.number (numbers_of xs) h
 
 -- the first is counted with its own weight
 pub counted_front : (a : Member) (xs : List Member) → counted_of a.number (a ∷ xs) ≡ Some a.counted
 counted_front a xs = ap (λ b. cond b (Some a.counted) (counted_of a.number xs)) (itself_tested a.number)
 
-counted_behind : (a : Member) (xs : List Member) (k : ℕ) → AreApart k a.number → counted_of k (a ∷ xs) ≡ counted_of k xs
+pub counted_behind : (a : Member) (xs : List Member) (k : ℕ) → AreApart k a.number → counted_of k (a ∷ xs) ≡ counted_of k xs
 counted_behind a xs k apart = ap (λ b. cond b (Some a.counted) (counted_of k xs)) apart.back
 
+-- ---- as many
+
+-- a list without a number twice is no longer than one with its numbers, but for those of a third
+no_longer : (xs ys ns : List ℕ) → IsDistinct (◌==◌) xs → ((n : ℕ) → is_listed n xs ≡ true → (is_listed n ys ≡ true) ⊎ Contains ns n) → length xs ≤ length ys + length ns
+no_longer xs ys ns once among =
+    subst (λ l. length xs ≤ l) (length-append ys ns) (length-le_from_is_member numbers_alike xs (ys ++ ns) once (λ n there. list_any-append (λ m. n == m) ys ns ∙ elim (among n (sym (turned n xs) ∙ there)) [
+      | inl listed ↦ or_left _ _ (turned n ys ∙ listed)
+      | inr c ↦ or_right _ _ (list_any-from_Contains numbers_alike n ns c)
+    ]))
+
+keys_once : {X : Type 0} (es : List (ℕ × X)) → T (is_sorted nat_cmp es) → IsDistinct (◌==◌) (map (λ e. e.0) es)
+unfolding IsDistinct
+keys_once {X} [] s = tt
+keys_once {X} (e ∷ es) s = (all_apart es (all_above e.0 es (left_part _ _ s)), keys_once es (right_part _ _ s))
+  where
+    all_apart : (ds : List (ℕ × X)) → AllByRecursion (λ d. e.0 < d.0) ds → AllByRecursion (λ k. (e.0 == k) ≡ false) (map (λ d. d.0) ds)
+    all_apart [] h = tt
+    all_apart (d ∷ ds) h = (apart_below e.0 d.0 h.0, all_apart ds h.1)
+
 module _ {K V : Type 0} where
-  has_some : (o : Option (Record K V)) → is_some o ≡ true → (r : Record K V) × (o ≡ Some r)
-  has_some None e = cc
-  has_some (Some r) e = (r, refl)
+  key_listed : (records : Records K V) (n : ℕ) → is_some (get records n) ≡ is_listed n (keys records)
+  key_listed records n = contains_key-keys records n ∙ (λ i. list_any (λ k. (unsigned_tied n k ∙ numbers_alike.symm n k) i) (keys records))
+
+  -- a number that is a record's and no member's, or a member's and no record's, is among these
+  abbrev AreAmong : List ℕ → Records K V → List Member → Type 0
+  AreAmong ns records access = (n : ℕ) → (is_some (get records n) ≡ is_member n access) ⊎ Contains ns n
+
+  -- then members and records differ in number by no more than there are of these
+  pub off_by : (ns : List ℕ) (records : Records K V) (access : List Member) → IsDistinct (◌==◌) (numbers_of access) → AreAmong ns records access → (length access ≤ len records + length ns) × (len records ≤ length access + length ns)
+  off_by ns records access once among =
+      let members : length (numbers_of access) ≡ length access = length-map access (λ (a : Member). a.number) in
+      let numbers : length (keys records) ≡ len records = length-map (entries records) (λ (e : ℕ × Record K V). e.0) ∙ sym (len-entries records) in
+      let fewer = no_longer (numbers_of access) (keys records) ns once (λ n listed. elim (among n) [ inl same ↦ inl (sym (key_listed records n) ∙ same ∙ sym (listed_counted n access) ∙ listed) | inr c ↦ inr c ]) in
+      let more = no_longer (keys records) (numbers_of access) ns (keys_once (entries records) (entries_sorted records)) (λ n listed. elim (among n) [ inl same ↦ inl (listed_counted n access ∙ sym same ∙ key_listed records n ∙ listed) | inr c ↦ inr c ]) in
+      (omega arith, omega arith)
 
   -- as many members as records
   pub same_numbers : (records : Records K V) (access : List Member) → IsDistinct (◌==◌) (numbers_of access) → ((n : ℕ) → is_some (get records n) ≡ is_member n access) → length access ≡ len records
-  same_numbers records [] once same = sym (ap len (empty_map records (λ n. none_by_test (get records n) (same n))) ∙ len-empty nat_cmp (Record K V))
-  same_numbers records (a ∷ access) once same =
-      let first = has_some (get records a.number) (same a.number ∙ ap is_some (counted_front a access)) in
-      let rest : length access ≡ len (remove records a.number) = same_numbers (remove records a.number) access (rest_once a access once) (λ k. elim (same_or_apart k a.number) [
-        | inl at ↦ ap (λ n. is_some (get (remove records a.number) n)) at ∙ ap is_some (get_removed records a.number) ∙ sym (ap is_some (front_once a access once)) ∙ sym (ap (λ n. is_member n access) at)
-        | inr apart ↦ ap is_some (get_past_remove records a.number k apart) ∙ same k ∙ ap is_some (counted_behind a access k apart)
-      ]) in
-      let one_more = len_removed records a.number first.0 first.1 in
-      omega arith
+  same_numbers records access once same = let both = off_by [] records access once (λ n. inl (same n)) in let low = both.0 in let high = both.1 in omega arith
 
   weight_at : (o : Option (Record K V)) (w : ℕ) → Some w ≡ option_map (λ r. r.weight) o → (r : Record K V) × (o ≡ Some r) × (r.weight ≡ w)
   weight_at None w e = cc

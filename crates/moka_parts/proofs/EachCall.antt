@@ -4,50 +4,34 @@ use Rattle.std.proofs.Common.{◌≡◌, refl, ℕ, ◌+◌, ◌<◌, Bool, true
 use Rattle.std.specs.Duration.{as_nanos}
 use Rattle.std.specs.FinMap.{get, remove}
 use Rattle.uuid.specs.declared.Uuid.{Uuid}
-use Rattle.moka_parts.specs.declared.policy.Instant.{Instant}
-use Rattle.moka_parts.specs.declared.records.Record.{Record}
-use Rattle.moka_parts.specs.declared.records.Registered.{Registered}
-use Rattle.moka_parts.specs.declared.records.ReadOperation.{ReadOperation}
-use Rattle.moka_parts.specs.declared.records.ReadOperation.TheVariants.{Miss}
-use Rattle.moka_parts.specs.declared.records.Operation.{Operation}
-use Rattle.moka_parts.specs.declared.records.Operation.TheVariants.{Removal}
-use Rattle.moka_parts.specs.declared.calls.Ticket.{Ticket}
-use Rattle.moka_parts.specs.declared.calls.Entry.{Entry}
-use Rattle.moka_parts.specs.declared.calls.KvEntry.{KvEntry}
-use Rattle.moka_parts.specs.declared.calls.Call.{Call}
+use Rattle.moka_parts.proofs.Types.{Instant, Record, Registered, ReadOperation, Miss, Operation, Removal, Ticket, Entry, KvEntry, Call, Reply, OutOfMemory, InsertRefused, Housekeeping, Notice, State, Meaning, Events, Terms, Course}
 use Rattle.moka_parts.specs.declared.calls.Call.TheVariants as call
-use Rattle.moka_parts.specs.declared.calls.Reply.{Reply}
 use Rattle.moka_parts.specs.declared.calls.Reply.TheVariants as reply
-use Rattle.moka_parts.specs.declared.error.OutOfMemory.{OutOfMemory}
-use Rattle.moka_parts.specs.declared.error.InsertRefused.{InsertRefused}
-use Rattle.moka_parts.specs.declared.error.PredicateRefused.{PredicateRefused}
-use Rattle.moka_parts.specs.declared.error.CapacityError.{CapacityError}
-use Rattle.moka_parts.specs.Housekeeping.{Housekeeping, is_due, after_run_due, without_automatic}
-use Rattle.moka_parts.specs.Records.{Notice, record_of_key}
-use Rattle.moka_parts.specs.State.{State, Meaning, Events, is_disabled}
-use Rattle.moka_parts.specs.Maintenance.{Terms, Course}
+use Rattle.moka_parts.specs.Housekeeping.{is_due, after_run_due, without_automatic}
+use Rattle.moka_parts.specs.Records.{record_of_key}
+use Rattle.moka_parts.specs.State.{is_disabled}
 use Rattle.moka_parts.specs.Visibility.{IsVisible}
-use Rattle.moka_parts.specs.Calls.{no_events, only_notices, only_ids, run_events, Unchanged, inserted, replaced, handing_out, queue_length, InsertsAt, InsertStep, RemovesAt, RemoveStep, InvalidateStep, CapacityStep, queueing, keeper_terms, RunStep, KeeperRun, RunsIfDue, RecordsRead, after_hit, hit_at, hit_operation, PeeksAt, PeekStep, GetsAt, GetStep}
+use Rattle.moka_parts.specs.Calls.{no_events, only_notices, only_ids, run_events, Unchanged, inserted, replaced, handing_out, queue_length, InsertsAt, InsertStep, RemovesAt, RemoveStep, queueing, keeper_terms, RunStep, KeeperRun, RunsIfDue, RecordsRead, after_hit, hit_at, hit_operation, PeeksAt, PeekStep, GetsAt, GetStep}
 use Rattle.moka_parts.specs.Runs.{CallStep}
 use Rattle.moka_parts.specs.Laws.{moment_in}
 use Rattle.moka_parts.proofs.Kept.{kept_by_send}
 
 -- no insert and no removal
-abbrev pub IsPlain : {K V P : Type 0} → Call K V P → Type 0
-IsPlain (call.Insert key hash value now) = ⊥
-IsPlain (call.Remove key hash now) = ⊥
-IsPlain c = Unit {0}
+abbrev pub IsNoWrite : {K V P : Type 0} → Call K V P → Type 0
+IsNoWrite (call.Insert key hash value now) = ⊥
+IsNoWrite (call.Remove key hash now) = ⊥
+IsNoWrite c = Unit {0}
 
 -- no run was made, and only of inserts and removals the listener is told
 pub record HasNoRun {K V P : Type 0} (c : Call K V P) (e : Events K V) : Type 0 where
   pub passes : e.passes ≡ None
-  pub notices : IsPlain c → e.notices ≡ []
+  pub notices : IsNoWrite c → e.notices ≡ []
 
 module _ {K V P : Type 0} (c : Call K V P) where
   no_notices : (ids : List Uuid) → HasNoRun c (only_ids {K = K} {V = V} ids)
   no_notices ids = record { passes = refl; notices = λ plain. refl }
 
-  no_run : (notices : List (Notice K V)) → (IsPlain c → ⊥) → HasNoRun c (only_notices notices)
+  no_run : (notices : List (Notice K V)) → (IsNoWrite c → ⊥) → HasNoRun c (only_notices notices)
   no_run notices told = record { passes = refl; notices = λ plain. absurd (told plain) }
 
 -- what holds where a run begins, and what after a call without one
@@ -162,7 +146,7 @@ module _ {K V X L P W C I : Type 0} (m : Meaning K V X L P W C I) (Runs Others :
       where
         go : (o : Option (Record K V)) (a : Result (Ticket × Instant) (InsertRefused K V)) → record_of_key m.eq s.records key ≡ o → InsertsAt m.created m.updated m.weighs s o key hash value now a e t → Ends c e t A
         go None (Ok a) found (w, weight, free, ticket, moment, same, told) = still c t _ e _ A told (no_notices c []) same (kept.inserted key hash value now w is on found) again
-        go (Some r) (Ok a) found (w, weight, free, ticket, moment, same, told) = still c t _ e _ A told (no_run c _ (λ plain. subst IsPlain is plain)) same (kept.replaced r key hash value now w is found) again
+        go (Some r) (Ok a) found (w, weight, free, ticket, moment, same, told) = still c t _ e _ A told (no_run c _ (λ plain. subst IsNoWrite is plain)) same (kept.replaced r key hash value now w is found) again
         go None (Err refused) found (why, same) = unchanged t e A same again
         go (Some r) (Err refused) found (why, same) = unchanged t e A same again
 
@@ -172,14 +156,6 @@ module _ {K V X L P W C I : Type 0} (m : Meaning K V X L P W C I) (Runs Others :
         go : (o : Option (Record K V)) → record_of_key m.eq s.records key ≡ o → RemovesAt s o a t → After t
         go None found (none, same) = subst After (sym same) kept.left
         go (Some r) found (some, same) = subst After (sym same) (kept.removed key hash now r is found)
-
-    predicate_leaves : (t : State K V X P W) (predicate : P) (now : Instant) (a : Result Uuid (PredicateRefused P)) (ids : List Uuid) → InvalidateStep s predicate now a ids t → After t
-    predicate_leaves t predicate now (Ok id) ids (on, few, free, same) = subst After (sym same) (kept.registered (record { id = id; predicate = predicate; registered = now }))
-    predicate_leaves t predicate now (Err refused) ids (back, why, same) = subst After (sym same) kept.left
-
-    capacity_leaves : (t : State K V X P W) (capacity : Option ℕ) (a : Result (Unit {0}) CapacityError) → c ≡ call.SetCapacity capacity → CapacityStep s capacity a t → After t
-    capacity_leaves t capacity (Ok x) is (neither, same) = subst After (sym same) (kept.resized capacity is neither)
-    capacity_leaves t capacity (Err refused) is (zero, same) = subst After (sym same) kept.left
 
   -- a call makes a run or leaves one of the states; with other runs it would be one of theirs
   pub each_call : (s t : State K V X P W) (c : Call K V P) (r : Reply K V P) (e : Events K V) → IsKept m Before After s c → CallStep m Runs s c r e t → Ends c e t (CallStep m Others s c r e t)
@@ -193,7 +169,8 @@ module _ {K V X L P W C I : Type 0} (m : Meaning K V X L P W C I) (Runs Others :
   each_call s t (call.Scan key now) (reply.Scan a) e kept step = unchanged s _ kept t e _ step.1 step
   each_call s t (call.Remove key hash now) (reply.Remove removed told) e kept step = still _ t t e _ _ step.2 (no_run _ e.notices (λ plain. plain)) refl (remove_leaves s _ kept t key hash now removed refl step.0) step
   each_call s t (call.InvalidateAll now) reply.InvalidateAll e kept step = still _ t _ e _ _ step.1 (no_notices _ []) step.0 (kept.hidden now refl) step
-  each_call s t (call.InvalidateIf predicate now) (reply.InvalidateIf a) e kept step = still _ t t e _ _ step.1 (no_notices _ e.ids) refl (predicate_leaves s _ kept t predicate now a e.ids step.0) step
+  each_call s t (call.InvalidateIf predicate now) (reply.InvalidateIf (Ok id)) e kept step = still _ t _ e _ _ step.1 (no_notices _ e.ids) step.0.3 (kept.registered (record { id = id; predicate = predicate; registered = now })) step
+  each_call s t (call.InvalidateIf predicate now) (reply.InvalidateIf (Err refused)) e kept step = still _ t s e _ _ step.1 (no_notices _ e.ids) step.0.2 kept.left step
   each_call s t (call.Run now limit repeats batch) (reply.Run more) e kept step = asked_ends s _ kept t (record { now = now.0; limit = option_map as_nanos limit; batch = batch }) more e step
   each_call s t (call.RunIfDue now) reply.RunIfDue e kept step = due_ends s _ kept s t (length s.writes) now.0 e kept.begins kept.left step
   each_call s t call.DisableAutoRun reply.DisableAutoRun e kept step = still _ t _ e _ _ step.1 (no_notices _ []) step.0 (kept.aside s s.reads (without_automatic s.housekeeping) kept.left) step
@@ -202,7 +179,8 @@ module _ {K V X L P W C I : Type 0} (m : Meaning K V X L P W C I) (Runs Others :
   each_call s t (call.Keys segment) (reply.Keys (Err refused)) e kept step = unchanged s _ kept t e _ step.1 step
   each_call s t call.Report (reply.Report count weight predicates) e kept step = unchanged s _ kept t e _ step.3 step
   each_call s t call.Pending (reply.Pending handed oldest writes reads) e kept step = unchanged s _ kept t e _ step.4 step
-  each_call s t (call.SetCapacity capacity) (reply.SetCapacity a) e kept step = still _ t t e _ _ step.1 (no_notices _ []) refl (capacity_leaves s _ kept t capacity a refl step.0) step
+  each_call s t (call.SetCapacity capacity) (reply.SetCapacity (Ok x)) e kept step = still _ t _ e _ _ step.1 (no_notices _ []) step.0.1 (kept.resized capacity refl step.0.0) step
+  each_call s t (call.SetCapacity capacity) (reply.SetCapacity (Err refused)) e kept step = still _ t s e _ _ step.1 (no_notices _ []) step.0.1 kept.left step
   each_call s t c r e kept step = absurd step
 
 module _ {K V X L P W C I : Type 0} (m : Meaning K V X L P W C I) (Runs : State K V X P W → Terms → Course → List (Notice K V) → State K V X P W → Type 0) (Before After : State K V X P W → Type 0) where

@@ -1,12 +1,12 @@
 -- The entries of a map, in order: which there are, one more behind all others, and the first taken out.
-use Rattle.std.proofs.Common.{◌≡◌, refl, ℕ, ◌<◌, ◌≤◌, cond, T, List, [], ◌∷◌, ◌++◌, Some, ap, sym, ◌∙◌, inl, inr, arith, Ordering, Less, Equal, Greater, is_lt}
+use Rattle.std.proofs.Common.{◌≡◌, refl, ℕ, ◌<◌, ◌≤◌, cond, T, List, [], ◌∷◌, ◌++◌, Some, ap, sym, ◌∙◌, arith, Ordering, Less, Equal, Greater, is_lt}
 use Rattle.std.specs.List.{AllByRecursion}
 use Rattle.std.specs.Ordering.{nat_cmp, eq_by_cmp}
 use Rattle.std.specs.Cmp.{nat_cmp_total, nat_cmp_is, ranked}
 use Rattle.std.specs.FinMap.{FinMap, get, insert, remove, entries, entries_sorted, entries-insert, get-entries, put, is_sorted}
 use Rattle.std.specs.FinMap.Entries.{by_order, below_all}
 use Rattle.std.specs.FinMap as finite
-use Rattle.moka_parts.proofs.Maps.{same_or_apart, itself_ordered, get_removed, get_past_remove}
+use Rattle.moka_parts.proofs.Maps.{itself_ordered, found_removed}
 use Rattle.moka_parts.proofs.Values.{put_again}
 use Rattle.moka_parts.proofs.Lookup.{left_part, right_part, found_behind}
 
@@ -40,10 +40,7 @@ module _ {X : Type 0} where
       ap entries (sym (put_again m k v there)) ∙ entries-insert nat_cmp_total (remove m k) k v ∙ put_first k v (entries (remove m k)) (each_entry (λ e. k < e.0) (remove m k) above)
     where
       above : (j : ℕ) (x : X) → get (remove m k) j ≡ Some x → k < j
-      above j x at = elim (same_or_apart j k) [
-        | inl same ↦ (let none = get_removed m k in let e = ap (get (remove m k)) same in cc)
-        | inr apart ↦ (let low = least j x (sym (get_past_remove m k j apart) ∙ at) in let differ = apart.forth in grind (arith, low, differ))
-      ]
+      above j x at = let before = found_removed m k j x at in let low = least j x before.1 in let differ = before.0.forth in grind (arith, low, differ)
 
   -- the keys behind a key in order
   pub all_above : (k : ℕ) (es : List (ℕ × X)) → T (below_all nat_cmp k es) → AllByRecursion (λ e. k < e.0) es

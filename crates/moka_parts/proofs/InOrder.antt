@@ -1,23 +1,19 @@
 -- Records, members, the write list and what waits, in the order of writing: kept by each operation applied and each
 -- step of a run.
-use Rattle.std.proofs.Common.{◌≡◌, refl, ℕ, ◌<◌, Bool, true, false, not, ◌==◌, ◌||◌, List, [], ◌∷◌, ◌++◌, map, Option, Some, None, is_some, ap, sym, ◌∙◌, subst, ◌⊎◌, inl, inr, if◌then◌else◌}
+use Rattle.std.proofs.Common.{◌≡◌, refl, ℕ, ◌<◌, false, not, ◌==◌, ◌||◌, List, [], ◌∷◌, ◌++◌, map, Option, Some, None, is_some, ap, sym, ◌∙◌, subst, ◌⊎◌, inl, inr, if◌then◌else◌, Contains, option_and_then}
 use Rattle.std.proofs.lemmas.Bool.{or_right}
-use Rattle.std.specs.Prelude.{Contains, ⊤, option_and_then}
 use Rattle.std.specs.Option.{option_map_or}
 use Rattle.std.specs.List.{IsDistinct, AllByRecursion}
-use Rattle.std.specs.FinMap.{get}
-use Rattle.moka_parts.specs.declared.records.Record.{Record}
-use Rattle.moka_parts.specs.declared.records.Member.{Member}
-use Rattle.moka_parts.specs.declared.records.Ticketed.{Ticketed}
-use Rattle.moka_parts.specs.declared.records.Operation.{Operation}
-use Rattle.moka_parts.specs.declared.records.Operation.TheVariants.{Upsert, Removal}
-use Rattle.moka_parts.specs.Records.{Records, member, counted_of, is_member, is_applied, without_member, without_members, to_back, all_to_back, is_listed, without_number, without_numbers, number_to_back}
+use Rattle.std.specs.FinMap.{get, remove}
+use Rattle.moka_parts.proofs.Types.{Record, Member, Ticketed, Operation, Upsert, Removal, Records}
+use Rattle.moka_parts.specs.Records.{member, counted_of, is_member, is_applied, without_member, without_members, to_back, all_to_back, is_listed, without_number, without_numbers, number_to_back}
 use Rattle.moka_parts.specs.Order.{written_if, written_by, IsNewer}
-use Rattle.moka_parts.proofs.Maps.{AreApart, same_or_apart, itself_tested}
+use Rattle.moka_parts.proofs.Maps.{AreApart, same_or_apart, itself_tested, found_removed}
 use Rattle.moka_parts.proofs.AccessList.{counted_taken_out, counted_past_taken_out, counted_pushed, counted_past_pushed, counted-to_back, counted-all_to_back}
 use Rattle.moka_parts.proofs.RunKeeps.{Keeps}
 use Rattle.moka_parts.proofs.Rises.{Rises, Thins, thins_filtered}
 use Rattle.moka_parts.proofs.WriteList.{listed_pushed, listed_taken_out, listed_past_taken_out, unlisted_taken_out, listed_moved}
+use Rattle.std.proofs.Math.Bool.{or-false}
 
 -- ---- the write list and the members
 
@@ -45,16 +41,9 @@ module _ (ns : List ℕ) (access : List Member) (h : AreMembers ns access) where
   -- one more at the back
   pub members_pushed : (n w : ℕ) → counted_of n access ≡ None → AreMembers (ns ++ n ∷ []) (access ++ member n w ∷ [])
   members_pushed n w absent k = elim (same_or_apart k n) [
-    | inl same ↦ ap (λ x. is_listed x (ns ++ n ∷ [])) same ∙ last ∙ sym (ap is_some (counted_pushed n w access absent)) ∙ sym (ap (λ x. is_member x (access ++ member n w ∷ [])) same)
-    | inr apart ↦ listed_pushed k n ns ∙ not_last (is_listed k ns) (n == k) apart.back ∙ h k ∙ sym (ap is_some (counted_past_pushed n w k access apart))
+    | inl same ↦ ap (λ x. is_listed x (ns ++ n ∷ [])) same ∙ listed_pushed n n ns ∙ or_right (is_listed n ns) (n == n) (itself_tested n) ∙ sym (ap is_some (counted_pushed n w access absent)) ∙ sym (ap (λ x. is_member x (access ++ member n w ∷ [])) same)
+    | inr apart ↦ listed_pushed k n ns ∙ ap (λ b. is_listed k ns || b) apart.back ∙ or-false (is_listed k ns) ∙ h k ∙ sym (ap is_some (counted_past_pushed n w k access apart))
   ]
-    where
-      not_last : (a b : Bool) → b ≡ false → (a || b) ≡ a
-      not_last true b e = refl
-      not_last false b e = e
-
-      last : is_listed n (ns ++ n ∷ []) ≡ true
-      last = listed_pushed n n ns ∙ or_right (is_listed n ns) (n == n) (itself_tested n)
 
 pub members_without : (gone : List Member) (ns : List ℕ) (access : List Member) → AreMembers ns access → AreMembers (without_numbers gone ns) (without_members gone access)
 members_without [] ns access h = h
@@ -65,8 +54,7 @@ members_without (a ∷ gone) ns access h = members_without gone (without_number 
 module _ {K V : Type 0} where
   -- when a settled record was written
   abbrev pub settled_moment : Option (Record K V) → Option ℕ
-  settled_moment None = None
-  settled_moment (Some r) = if is_applied r then Some r.written.0 else None
+  settled_moment o = option_and_then (λ r. if is_applied r then Some r.written.0 else None) o
 
   -- when the settled record of the number was written
   abbrev pub settled_at : Records K V → ℕ → Option ℕ
@@ -101,17 +89,22 @@ module _ {K V : Type 0} where
   pub settled_less : (n : ℕ) (old new : Records K V) → SameOrGone n old new → (k : ℕ) → AreApart k n → (settled_at new k ≡ settled_at old k) ⊎ (settled_at new k ≡ None)
   settled_less n old new h k apart = elim (h k apart) [ inl same ↦ inl (ap settled_moment same) | inr none ↦ inr (ap settled_moment none) ]
 
+  -- what waits is newer than the records that are left
+  pub newer_left : (records : Records K V) (n : ℕ) (o : Operation) → IsNewer records o → IsNewer (remove records n) o
+  newer_left records n (Removal m g) old = tt
+  newer_left records n (Upsert m g w x) old = λ r there. old r (found_removed records n m r there).1
+
 -- ---- the order
 
 -- the later operation has the later generation, if both are upserts of one record
 abbrev pub IsLater : Operation → Operation → Type 0
-IsLater (Removal n g) later = ⊤
-IsLater (Upsert n g w x) (Removal m k) = ⊤
+IsLater (Removal n g) later = Unit {0}
+IsLater (Upsert n g w x) (Removal m k) = Unit {0}
 IsLater (Upsert n g w x) (Upsert m k v y) = n ≡ m → g < k
 
 -- of each record's upserts the later have the later generations
 abbrev pub AreLater : List Ticketed → Type 0
-AreLater [] = ⊤
+AreLater [] = Unit {0}
 AreLater (h ∷ hs) = AllByRecursion (λ (q : Ticketed). IsLater h.operation q.operation) hs × AreLater hs
 
 -- all that an order in writing needs

@@ -1,17 +1,13 @@
 -- A predicate that leaves in a call does so in a run at some moment of which it covers no record.
-use Rattle.std.proofs.Common.{◌≡◌, refl, Bool, true, false, List, [], ◌∷◌, is_some, ap, sym, subst, ◌⊎◌, inl, inr, MatchBool}
-use Rattle.std.specs.Prelude.{Contains}
+use Rattle.std.proofs.Common.{◌≡◌, refl, true, List, [], ◌∷◌, is_some, ap, sym, subst, ◌⊎◌, inl, inr, Contains}
 use Rattle.std.proofs.lemmas.List.Elements.{Contains-append_left}
-use Rattle.moka_parts.specs.declared.records.Registered.{Registered}
-use Rattle.moka_parts.specs.declared.calls.Call.{Call}
-use Rattle.moka_parts.specs.declared.calls.Reply.{Reply}
-use Rattle.moka_parts.specs.Records.{Notice}
-use Rattle.moka_parts.specs.State.{State, Meaning, Events, is_disabled}
-use Rattle.moka_parts.specs.Maintenance.{Freedom, Terms, Course, RunsBy, DoesNothing, MaintenanceRun, before_steps}
+use Rattle.moka_parts.proofs.Types.{Registered, Call, Reply, Notice, State, Meaning, Events, Terms, Course}
+use Rattle.moka_parts.specs.Maintenance.{MaintenanceRun, before_steps}
 use Rattle.moka_parts.specs.Runs.{CallStep}
 use Rattle.moka_parts.specs.Laws.{CoversNothingIn, PredicatesLeaveIdle}
 use Rattle.moka_parts.proofs.EachCall.{IsKept, each_call}
 use Rattle.moka_parts.proofs.Dropped.{kept_or_idle}
+use Rattle.moka_parts.proofs.Kept.{run_cases}
 
 module _ {K V X L P W C I : Type 0} (m : Meaning K V X L P W C I) (p : Registered P) where
   -- the predicate is registered
@@ -19,14 +15,12 @@ module _ {K V X L P W C I : Type 0} (m : Meaning K V X L P W C I) (p : Registere
   IsThere s = Contains s.predicates p
 
   run_leaves : (s t : State K V X P W) (terms : Terms) (course : Course) (notices : List (Notice K V)) → IsThere s → MaintenanceRun m.says s terms course notices t → IsThere t ⊎ CoversNothingIn m.says p s terms course notices t
-  run_leaves s t terms course notices here run = go (is_disabled s.capacity) run.0
-    where
-      go : (b : Bool) → MatchBool b (DoesNothing s course notices t) ((ch : Freedom) × RunsBy m.says s terms ch course notices t × Unit {0}) → IsThere t ⊎ CoversNothingIn m.says p s terms course notices t
-      go true nothing = inl (subst IsThere (sym nothing.0) here)
-      go false (ch, by, done) = elim (kept_or_idle m.says s terms.now (before_steps s ch) s.predicates ch.steps p by.0.1 here) [
+  run_leaves s t terms course notices here run = run_cases _ s t _ m.says terms course notices
+      (λ off nothing. inl (subst IsThere (sym nothing.0) here))
+      (λ ch on by done. elim (kept_or_idle m.says s terms.now (before_steps s ch) s.predicates ch.steps p by.0.1 here) [
         | inl stays ↦ inl (subst IsThere (sym by.1) stays)
         | inr (first, rest, same, idle) ↦ inr (ch, by, first, rest, same, idle)
-      ]
+      ]) run.0
 
   stays_there : (s : State K V X P W) (c : Call K V P) → IsThere s → IsKept m IsThere IsThere s c
   stays_there s c here = record {

@@ -1,3 +1,4 @@
+pub mod Types
 pub mod Maps
 pub mod Options
 pub mod Values
@@ -28,7 +29,6 @@ pub mod Surplus
 pub mod OneMore
 pub mod Conserved
 pub mod ConservedCalls
-pub mod Quiet
 pub mod Dropped
 pub mod StaysHidden
 pub mod Examples
@@ -43,7 +43,6 @@ pub mod Admission
 pub mod RunsGoOn
 pub mod Registry
 pub mod Scanned
-pub mod ListsOfCalls
 pub mod OrderedList
 pub mod OrderedSteps
 pub mod OrderedRuns

@@ -1,19 +1,16 @@
 -- What is found by a key stands at its number.
-use Rattle.std.proofs.Common.{◌≡◌, refl, ℕ, Bool, true, false, cond, T, ◌&&◌, map, List, [], ◌∷◌, Option, Some, None, option_map, ap, sym, ◌∙◌, find, unwrap_or, is_lt, is_eq, Ordering, Less, Equal, Greater, true≢false}
+use Rattle.std.proofs.Common.{◌≡◌, refl, ℕ, Bool, true, false, cond, T, ◌&&◌, map, List, [], ◌∷◌, Option, Some, None, option_map, ap, sym, ◌∙◌, find, unwrap_or, is_lt, is_eq, Ordering, Less, Equal, Greater, true≢false, inl, inr}
 use Rattle.std.specs.Ordering.{nat_cmp, eq_by_cmp}
 use Rattle.std.specs.Cmp.{nat_cmp_total, eq_by_cmp_equiv, IsEquivalence}
-use Rattle.std.specs.FinMap.{get, empty, entries, entries_sorted, get-entries, get-remove, is_sorted}
+use Rattle.std.specs.FinMap.{get, empty, entries, entries_sorted, get-entries, is_sorted}
 use Rattle.std.specs.FinMap.Entries.{below_all}
 use Rattle.std.specs.FinMap as finite
-use Rattle.moka_parts.proofs.Maps.{one_by_order, entries-empty}
-use Rattle.moka_parts.specs.declared.records.Record.{Record}
-use Rattle.moka_parts.specs.declared.calls.KvEntry.{KvEntry}
-use Rattle.moka_parts.specs.declared.calls.Ticket.{Ticket}
-use Rattle.moka_parts.specs.Records.{Records, record_of_key}
-use Rattle.moka_parts.specs.State.{State}
-use Rattle.moka_parts.specs.Settling.{IsWellNumbered}
+use Rattle.moka_parts.proofs.Maps.{one_by_order, entries-empty, same_or_apart, get_past_remove}
+use Rattle.moka_parts.proofs.Types.{Record, Records, State}
+use Rattle.moka_parts.specs.Records.{record_of_key}
 use Rattle.moka_parts.specs.Calls.{RemovesAt, entry_of}
 use Rattle.moka_parts.specs.Laws.{RemovesJustOne}
+use Rattle.std.proofs.lemmas.Option.{same_Some}
 
 pub left_part : (a b : Bool) → T (a && b) → T a
 left_part true b p = tt
@@ -67,28 +64,23 @@ record_of_key_found eq records key r e =
     (found.0, get-entries records found.0 ∙ found.1, found.2)
 
 module _ {K V X P W : Type 0} (eq : K → K → Bool) (s : State K V X P W) where
-  kept_by_removal : (o : Option (Record K V)) (key : K) (a : Option (KvEntry K V × Ticket)) (t : State K V X P W) → IsWellNumbered eq s → record_of_key eq s.records key ≡ o → RemovesAt s o a t → (n : ℕ) (r : Record K V) → get s.records n ≡ Some r → eq key r.key ≡ false → get t.records n ≡ Some r
-  kept_by_removal None key a t well found h n r there other = rw (h.1) there
-  kept_by_removal (Some q) key a t well found h n r there other =
-      let at = record_of_key_found eq s.records key q found in
-      rw (h.1) (get-remove nat_cmp_total s.records q.number n ∙ apart (eq_by_cmp nat_cmp n q.number) refl)
-    where
-      apart : (b : Bool) → eq_by_cmp nat_cmp n q.number ≡ b → cond b None (get s.records n) ≡ Some r
-      apart false e = there
-      apart true e =
-          let at = record_of_key_found eq s.records key q found in
-          let one : n ≡ q.number = one_by_order n q.number e in
-          let same : n ≡ at.0 = one ∙ (well.numbered.numbered at.0 q at.1).0 in
-          let both : r ≡ q = ap (λ o. unwrap_or o r) (sym there ∙ ap (get s.records) same ∙ at.1) in
-          absurd (true≢false (sym (at.2) ∙ ap (λ (x : Record K V). eq key x.key) (sym both) ∙ other))
-
-  told_by_removal : (o : Option (Record K V)) (a : Option (KvEntry K V × Ticket)) (t : State K V X P W) → RemovesAt s o a t → option_map (λ x. x.0) a ≡ option_map entry_of o
-  told_by_removal None a t h = ap (option_map (λ x. x.0)) h.0
-  told_by_removal (Some r) a t h = ap (option_map (λ x. x.0)) h.0
-
   -- a removal takes the record of one key
   pub removes_just_one : RemovesJustOne eq s
-  removes_just_one key a t well h = (told_by_removal (record_of_key eq s.records key) a t h, λ n r there other. kept_by_removal (record_of_key eq s.records key) key a t well refl h n r there other)
+  removes_just_one key a t well step = go (record_of_key eq s.records key) refl step
+    where
+      go : (o : Option (Record K V)) → record_of_key eq s.records key ≡ o → RemovesAt s o a t →
+          (option_map (λ x. x.0) a ≡ option_map entry_of o) × ((n : ℕ) (r : Record K V) → get s.records n ≡ Some r → eq key r.key ≡ false → get t.records n ≡ Some r)
+      go None found (none, same) = (ap (option_map (λ x. x.0)) none, λ n r there other. rw same there)
+      go (Some q) found (some, same) = (
+        ap (option_map (λ x. x.0)) some,
+        λ n r there other. elim (same_or_apart n q.number) [
+          | inl at_its ↦
+              let at = record_of_key_found eq s.records key q found in
+              let both : r ≡ q = same_Some r q (sym there ∙ ap (get s.records) (at_its ∙ (well.numbered.numbered at.0 q at.1).0) ∙ at.1) in
+              absurd (true≢false (sym at.2 ∙ ap (λ (x : Record K V). eq key x.key) (sym both) ∙ other))
+          | inr apart ↦ rw same (get_past_remove s.records q.number n apart ∙ there)
+        ],
+      )
 
 -- ---- a key and its record
 

@@ -1,12 +1,12 @@
 -- Numbers as keys of finite maps: what is found after a change.
-use Rattle.std.proofs.Common.{◌≡◌, refl, ℕ, ◌<◌, ◌≤◌, Bool, true, false, cond, length, [], Some, None, ap, sym, ◌∙◌, ◌⊎◌, inl, inr, ◌==◌, eqb→eq, true≢false, arith}
+use Rattle.std.proofs.Common.{◌≡◌, ℕ, ◌<◌, ◌≤◌, true, false, cond, length, [], Some, None, ap, sym, ◌∙◌, ◌⊎◌, inl, inr, ◌==◌, eqb→eq, arith, subst}
 use Rattle.std.specs.Bool.{passes}
-use Rattle.std.specs.Ordering.{nat_cmp, is_eq, eq_by_cmp}
-use Rattle.std.specs.declared.cmp.Ordering.{Ordering}
-use Rattle.std.specs.declared.cmp.Ordering.TheVariants.{Less, Equal, Greater}
-use Rattle.std.specs.Cmp.{nat_cmp_total, eq_by_cmp_equiv}
-use Rattle.std.specs.FinMap.{FinMap, get, insert, remove, empty, from_sorted, entries, entries-from_sorted, len-entries, empty_of_len, get-empty, get-insert, get-remove, nat_cmp-IsAntisymmetric}
+use Rattle.std.specs.Ordering.{nat_cmp, eq_by_cmp}
+use Rattle.std.specs.Cmp.{nat_cmp_total, eq_by_cmp_equiv, IsEquivalence, unsigned_tied}
+use Rattle.std.specs.FinMap.{FinMap, get, insert, remove, empty, from_sorted, entries, entries-from_sorted, len-entries, empty_of_len, get-empty, get-insert, get-remove}
 pub use Rattle.moka_links.proofs.FinMaps.{get-inserted as get_inserted, get-removed as get_removed}
+use Rattle.std.proofs.lemmas.Option.{none-some, same_Some}
+use Rattle.std.proofs.lemmas.Bool.{cases_eq, ne_eqb}
 
 -- two numbers that differ, by each test
 pub record AreApart (a b : ℕ) : Type 0 where
@@ -14,11 +14,9 @@ pub record AreApart (a b : ℕ) : Type 0 where
   pub forth : (a == b) ≡ false
   pub back : (b == a) ≡ false
 
--- an order that tests equal is
-pub is_Equal : (r : Ordering) → is_eq r ≡ true → r ≡ Equal
-is_Equal Less e = cc
-is_Equal Equal e = refl
-is_Equal Greater e = cc
+-- numbers are told apart by their order as by equality
+pub numbers_alike : IsEquivalence (λ (a b : ℕ). a == b)
+numbers_alike = subst IsEquivalence (λ i a b. unsigned_tied a b i) (eq_by_cmp_equiv nat_cmp_total)
 
 -- a number ties with itself
 pub itself_ordered : (n : ℕ) → eq_by_cmp nat_cmp n n ≡ true
@@ -26,7 +24,7 @@ itself_ordered n = (eq_by_cmp_equiv nat_cmp_total).refl n
 
 -- a number is equal to itself
 pub itself_tested : (n : ℕ) → (n == n) ≡ true
-itself_tested n = grind arith
+itself_tested n = numbers_alike.refl n
 
 -- numbers that test equal are the same
 pub same_by_test : (a b : ℕ) → (a == b) ≡ true → a ≡ b
@@ -34,28 +32,18 @@ same_by_test a b e = eqb→eq a b (passes _ e)
 
 -- numbers that tie are the same
 pub one_by_order : (a b : ℕ) → eq_by_cmp nat_cmp a b ≡ true → a ≡ b
-one_by_order a b e = nat_cmp-IsAntisymmetric a b (is_Equal (nat_cmp a b) e)
+one_by_order a b e = same_by_test a b (sym (unsigned_tied a b) ∙ e)
 
 -- two numbers are the same or differ by each test
 pub same_or_apart : (a b : ℕ) → (a ≡ b) ⊎ AreApart a b
-same_or_apart a b = go (eq_by_cmp nat_cmp a b) refl
-  where
-    apart : (t : Bool) → (x y : ℕ) → (x == y) ≡ t → (x ≡ y → ⊥) → (x == y) ≡ false
-    apart true x y e differ = absurd (differ (same_by_test x y e))
-    apart false x y e differ = e
-
-    go : (t : Bool) → eq_by_cmp nat_cmp a b ≡ t → (a ≡ b) ⊎ AreApart a b
-    go true e = inl (one_by_order a b e)
-    go false e =
-        let differ : a ≡ b → ⊥ = λ (s : a ≡ b). true≢false (sym (itself_ordered b) ∙ sym (ap (λ x. eq_by_cmp nat_cmp x b) s) ∙ e) in
-        inr (record { ordered = e; forth = apart (a == b) a b refl differ; back = apart (b == a) b a refl (λ s. differ (sym s)) })
+same_or_apart a b = elim (cases_eq a b) [
+  | inl same ↦ inl same
+  | inr differ ↦ inr (record { ordered = unsigned_tied a b ∙ ne_eqb a b differ; forth = ne_eqb a b differ; back = ne_eqb b a (λ same. differ (sym same)) })
+]
 
 -- numbers that differ, differ the other way round
 pub apart_turned : (a b : ℕ) → (a == b) ≡ false → (b == a) ≡ false
-apart_turned a b e = elim (same_or_apart a b) [
-  | inl same ↦ absurd (true≢false (sym (itself_tested b) ∙ sym (ap (λ x. x == b) same) ∙ e))
-  | inr apart ↦ apart.back
-]
+apart_turned a b e = numbers_alike.symm b a ∙ e
 
 -- a number differs from a greater one
 pub apart_below : (a b : ℕ) → a < b → (a == b) ≡ false
@@ -73,6 +61,20 @@ module _ {X : Type 0} where
   -- at another key than was taken out
   pub get_past_remove : (m : FinMap nat_cmp X) (n k : ℕ) → AreApart k n → get (remove m n) k ≡ get m k
   get_past_remove m n k a = get-remove nat_cmp_total m n k ∙ ap (λ b. cond b None (get m k)) a.ordered
+
+  -- what is found after one more was put in is that one, or was there
+  pub found_inserted : (m : FinMap nat_cmp X) (n : ℕ) (x : X) (k : ℕ) (y : X) → get (insert m n x) k ≡ Some y → ((k ≡ n) × (x ≡ y)) ⊎ (AreApart k n × (get m k ≡ Some y))
+  found_inserted m n x k y found = elim (same_or_apart k n) [
+    | inl same ↦ inl (same, same_Some x y (sym (get_inserted m n x) ∙ sym (ap (get (insert m n x)) same) ∙ found))
+    | inr apart ↦ inr (apart, sym (get_past_insert m n x k apart) ∙ found)
+  ]
+
+  -- what is found after one was taken out was there, at another key
+  pub found_removed : (m : FinMap nat_cmp X) (n k : ℕ) (x : X) → get (remove m n) k ≡ Some x → AreApart k n × (get m k ≡ Some x)
+  found_removed m n k x found = elim (same_or_apart k n) [
+    | inl same ↦ absurd (none-some x (sym (get_removed m n) ∙ sym (ap (get (remove m n)) same) ∙ found))
+    | inr apart ↦ (apart, sym (get_past_remove m n k apart) ∙ found)
+  ]
 
   -- an empty map has no entries
   pub entries-empty : entries (empty {X = X} {R = nat_cmp}) ≡ []

@@ -1,13 +1,13 @@
 -- What holds of a new cache.
-use Rattle.std.proofs.Common.{refl, ℕ, ◌<◌, Bool, Option, [], inl, inr, arith}
+use Rattle.std.proofs.Common.{refl, ℕ, ◌<◌, Bool, Option, arith, nat_cmp}
+use Rattle.moka_parts.proofs.Types.{Settings}
 use Rattle.std.specs.List.{IsDistinct}
-use Rattle.std.specs.Ordering.{nat_cmp}
 use Rattle.std.specs.FinMap.{empty, get-empty}
-use Rattle.moka_parts.specs.State.{Settings, new_state}
-use Rattle.moka_parts.specs.Settling.{IsConsistentState, IsWaitingIn, IsValid}
-use Rattle.moka_parts.specs.declared.records.Operation.{Operation}
+use Rattle.moka_parts.specs.State.{new_state}
+use Rattle.moka_parts.specs.Settling.{IsConsistentState, IsValid}
 use Rattle.moka_parts.proofs.Maps.{nothing_at}
 use Rattle.moka_parts.proofs.Rising.{rising_at_first}
+use Rattle.moka_parts.proofs.AtEnd.{nothing_waits}
 
 module _ (K V P : Type 0) {X W : Type 0} (settings : Settings X W) (capacity : Option ℕ) (now first_ticket : ℕ) where
   -- nothing is kept and nothing waits
@@ -22,7 +22,7 @@ module _ (K V P : Type 0) {X W : Type 0} (settings : Settings X W) (capacity : O
     numbered = record {
       numbered = record {
         numbered = λ n r there. absurd (nothing_at n r there);
-        known = λ o waits. absurd (none o waits);
+        known = λ o waits. absurd (nothing_waits empty refl o waits);
         one_each = λ a b p q there also same. absurd (nothing_at a p there);
       };
       ticketed = record {
@@ -33,7 +33,3 @@ module _ (K V P : Type 0) {X W : Type 0} (settings : Settings X W) (capacity : O
     };
     rising = rising_at_first;
   }
-    where
-      none : (o : Operation) → IsWaitingIn empty [] o → ⊥
-      none o (inl p) = nothing_at p.0 o p.1
-      none o (inr q) = let below : q.1.0 < 0 = q.1.1 in absurd (omega arith)

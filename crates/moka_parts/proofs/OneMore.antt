@@ -1,8 +1,7 @@
 -- Steps of a run, and one more at their end.
 use Rattle.std.proofs.Common.{◌≡◌, refl, Bool, List, [], ◌∷◌, ◌++◌, ap}
-use Rattle.moka_parts.specs.declared.records.Registered.{Registered}
-use Rattle.moka_parts.specs.State.{Contents}
-use Rattle.moka_parts.specs.Maintenance.{Choice, Removes, MovesToBack, Drops, after_choice, after_choices, kept_by_choice, kept_by_choices, Tests, IsJustified, AreJustified}
+use Rattle.moka_parts.proofs.Types.{Registered, Contents, Choice, Removes, MovesToBack, Drops, Tests}
+use Rattle.moka_parts.specs.Maintenance.{after_choice, after_choices, kept_by_choice, kept_by_choices, IsJustified, AreJustified}
 use Rattle.moka_parts.specs.Bounds.{removed_by}
 
 -- the numbers that steps remove

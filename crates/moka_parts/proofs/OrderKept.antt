@@ -1,36 +1,24 @@
 -- The order of writing is kept by each operation applied and each step of a run.
-use Rattle.std.proofs.Common.{◌≡◌, refl, ℕ, ◌<◌, Bool, true, false, ◌==◌, List, [], ◌∷◌, ◌++◌, map, Option, Some, None, is_some, ap, sym, ◌∙◌, subst, ◌⊎◌, inl, inr, arith, append_assoc, if◌then◌else◌}
-use Rattle.std.specs.Prelude.{Contains, option_and_then, remove as remove_at}
+use Rattle.std.proofs.Common.{◌≡◌, refl, ℕ, ◌<◌, Bool, true, false, ◌==◌, List, [], ◌∷◌, ◌++◌, map, Option, Some, None, is_some, ap, sym, ◌∙◌, subst, ◌⊎◌, inl, inr, arith, append_assoc, if◌then◌else◌, Contains, option_and_then, remove as remove_at}
 use Rattle.std.specs.Option.{option_map_or}
 use Rattle.std.specs.List.{IsDistinct, AllByRecursion}
-use Rattle.std.proofs.lemmas.Bool.{lt-ltb}
 use Rattle.std.proofs.lemmas.List.{map-append}
 use Rattle.std.proofs.lemmas.List.Elements.{All-from_recursion, All-contains, Contains-append_left, Contains-append_right, Contains-push}
 use Rattle.std.specs.FinMap.{get, remove}
-use Rattle.moka_parts.specs.declared.policy.EvictionPolicy.{EvictionPolicy}
-use Rattle.moka_parts.specs.declared.policy.EvictionPolicy.TheVariants.{TinyLfu, Lru}
-use Rattle.moka_parts.specs.declared.records.Record.{Record}
-use Rattle.moka_parts.specs.declared.records.Member.{Member}
-use Rattle.moka_parts.specs.declared.records.Ticketed.{Ticketed}
-use Rattle.moka_parts.specs.declared.records.Operation.{Operation}
-use Rattle.moka_parts.specs.declared.records.Operation.TheVariants.{Upsert, Removal}
-use Rattle.moka_parts.specs.declared.records.ReadOperation.{ReadOperation}
-use Rattle.moka_parts.specs.declared.records.ReadOperation.TheVariants.{Hit, Miss}
-use Rattle.moka_parts.specs.declared.records.Registered.{Registered}
-use Rattle.moka_parts.specs.Records.{Records, member, counted_of, is_member, is_settled, without_member, without_members, to_back, all_to_back, is_listed, without_number, without_numbers, number_to_back, total_weight, has_room}
-use Rattle.moka_parts.specs.State.{State, Contents, contents, keeps_write_list}
+use Rattle.moka_parts.proofs.Types.{EvictionPolicy, Record, Member, Ticketed, Operation, Upsert, Removal, ReadOperation, Hit, Miss, Registered, Records, State, Contents, Tests, Choice, Removes, MovesToBack, Drops, Freedom, Fate, Ignored, Overtaken, Counted, Admitted, TooHeavy, Preferred, Refused}
+use Rattle.moka_parts.specs.Records.{member, counted_of, is_member, is_settled, without_member, without_members, to_back, all_to_back, is_listed, without_number, without_numbers, number_to_back}
+use Rattle.moka_parts.specs.State.{contents, keeps_write_list}
 use Rattle.moka_parts.specs.Reads.{after_read, after_reads}
-use Rattle.moka_parts.specs.Maintenance.{Tests, tests_of, Choice, Removes, MovesToBack, Drops, Freedom, after_choice, after_choices, AreJustified, AreFree, after_queued_reads, before_steps, at_end}
-use Rattle.moka_parts.specs.Candidates.{victims_for, is_preferred}
-use Rattle.moka_parts.specs.Writes.{Fate, Ignored, Overtaken, Counted, Admitted, TooHeavy, Preferred, Refused, with_applied, without_records, fate_by_frequency, fate_by_policy, fate_of_newcomer, fate_of_record, after_fate, after_write, after_writes}
+use Rattle.moka_parts.specs.Maintenance.{tests_of, after_choice, after_choices, AreJustified, AreFree, after_queued_reads, before_steps, at_end}
+use Rattle.moka_parts.specs.Writes.{with_applied, without_records, fate_of_record, after_fate, after_write, after_writes}
 use Rattle.moka_parts.specs.Order.{written_if, written_by, IsNewer, written_after_fate, written_after_write, written_after_writes, written_after_choices, write_list_at_end}
 use Rattle.moka_parts.proofs.Maps.{same_or_apart, get_inserted, get_past_insert, get_removed, get_past_remove}
-use Rattle.moka_parts.proofs.Options.{none_by_test}
 use Rattle.moka_parts.proofs.AccessList.{counted_taken_out, counted-all_to_back, uncounted_without}
-use Rattle.moka_parts.proofs.RunKeeps.{Keeps, keeps_fate, keeps_remove}
+use Rattle.moka_parts.proofs.RunKeeps.{Keeps, keeps_fate, keeps_remove, keeps_itself}
 use Rattle.moka_parts.proofs.Rises.{Rises, Thins, thins_behind, thins_without_first, thins_each, thins_all}
 use Rattle.moka_parts.proofs.WriteList.{unlisted_without, once_taken_out, once_pushed, once_moved, once_without}
-use Rattle.moka_parts.proofs.InOrder.{AreMembers, members_taken_out, members_moved, members_all_moved, members_both_moved, members_pushed, members_without, settled_moment, settled_at, waiting_at, unsettled_moment, waiting_less, SameOrGone, settled_less, IsLater, IsOrdered, IsLeftOf, left_taken_out, left_unlisted, left_without}
+use Rattle.moka_parts.proofs.InOrder.{AreMembers, members_taken_out, members_moved, members_all_moved, members_both_moved, members_pushed, members_without, settled_moment, settled_at, waiting_at, unsettled_moment, waiting_less, SameOrGone, settled_less, IsLater, IsOrdered, IsLeftOf, left_taken_out, left_unlisted, left_without, newer_left}
+use Rattle.moka_parts.proofs.RunKeepsSound.{Known, fate_known}
 
 -- what holds of all of a list holds of each
 pub of_each : {A : Type 0} (P : A → Type 0) (xs : List A) → AllByRecursion P xs → (x : A) → Contains xs x → P x
@@ -41,6 +29,30 @@ behind_first h ws q there = Contains-append_right (h ∷ []) ws q there
 
 first_of : (h : Ticketed) (ws : List Ticketed) → Contains (h ∷ ws) h
 first_of h ws = Contains-append_left (h ∷ []) ws h (Contains-push [] h)
+
+-- ---- less
+
+module _ {K V : Type 0} (records : Records K V) (access : List Member) (ns : List ℕ) (ws : List Ticketed) where
+  -- without the front of what waits
+  front_taken : (h : Ticketed) → IsOrdered records access ns (h ∷ ws) → IsOrdered records access ns ws
+  front_taken h o = record {
+    once = o.once;
+    members = o.members;
+    newer = λ q waits. o.newer q (behind_first h ws q waits);
+    rises = thins_each (settled_at records) (settled_at records) ns (waiting_at records h ∷ map (waiting_at records) ws) (map (waiting_at records) ws) (λ k. inl refl)
+        (thins_without_first (waiting_at records h) (map (waiting_at records) ws) (map (waiting_at records) ws) (λ low r. r)) 0 o.rises;
+    later = o.later.1;
+  }
+
+  -- without one number, whose record may leave
+  number_taken : (n : ℕ) (after : Records K V) → SameOrGone n records after → Keeps records after → ((p : Operation) → IsNewer records p → IsNewer after p) → IsOrdered records access ns ws → IsOrdered after (without_member n access) (without_number n ns) ws
+  number_taken n after others keeps newer o = record {
+    once = once_taken_out n ns o.once;
+    members = members_taken_out ns access o.members n;
+    newer = λ q waits. newer q.operation (o.newer q waits);
+    rises = left_taken_out n ns (settled_at records) (settled_at after) (map (waiting_at records) ws) (map (waiting_at after) ws) (settled_less n records after others) (thins_all (waiting_at records) (waiting_at after) ws (waiting_less records after keeps)) 0 o.rises;
+    later = o.later;
+  }
 
 -- ---- an upsert of a record in the map
 
@@ -111,31 +123,9 @@ gone_or_same (a ∷ gone) records k = elim (gone_or_same gone (remove records a.
 ]
 
 module _ {K V : Type 0} (capacity : Option ℕ) (policy : EvictionPolicy) (c : Contents K V) (ns : List ℕ) (h : Ticketed) (ws : List Ticketed) (moved : List ℕ) (o : IsOrdered c.records c.access ns (h ∷ ws)) where
-  -- a removal
-  removal_ordered : (n g : ℕ) → IsOrdered c.records (without_member n c.access) (without_number n ns) ws
-  removal_ordered n g = record {
-    once = once_taken_out n ns o.once;
-    members = members_taken_out ns c.access o.members n;
-    newer = λ q waits. o.newer q (behind_first h ws q waits);
-    rises = left_taken_out n ns (settled_at c.records) (settled_at c.records) (waiting_at c.records h ∷ map (waiting_at c.records) ws) (map (waiting_at c.records) ws) (λ k apart. inl refl)
-        (thins_without_first (waiting_at c.records h) (map (waiting_at c.records) ws) (map (waiting_at c.records) ws) (λ low r. r)) 0 o.rises;
-    later = o.later.1;
-  }
-
-  -- an upsert of a record that left the map
-  late_ordered : IsOrdered c.records c.access ns ws
-  late_ordered = record {
-    once = o.once;
-    members = o.members;
-    newer = λ q waits. o.newer q (behind_first h ws q waits);
-    rises = thins_each (settled_at c.records) (settled_at c.records) ns (waiting_at c.records h ∷ map (waiting_at c.records) ws) (map (waiting_at c.records) ws) (λ k. inl refl)
-        (thins_without_first (waiting_at c.records h) (map (waiting_at c.records) ws) (map (waiting_at c.records) ws) (λ low r. r)) 0 o.rises;
-    later = o.later.1;
-  }
-
   module _ (n g w x : ℕ) (r : Record K V) (is : h.operation ≡ Upsert n g w x) (there : get c.records n ≡ Some r) where
-    abbrev Follows : Fate → Type 0
-    Follows f = IsOrdered (after_fate c n g w moved r f).records (after_fate c n g w moved r f).access (written_after_fate true n ns f) ws
+    abbrev IsOrderedAfter : Fate → Type 0
+    IsOrderedAfter f = IsOrdered (after_fate c n g w moved r f).records (after_fate c n g w moved r f).access (written_after_fate true n ns f) ws
 
     abbrev seen : Record K V
     seen = record r { applied = g }
@@ -144,20 +134,17 @@ module _ {K V : Type 0} (capacity : Option ℕ) (policy : EvictionPolicy) (c : C
     put_others k apart = inl (get_past_insert c.records n seen k apart)
 
     -- of a member
-    counted_ordered : is_member n c.access ≡ true → Follows Counted
+    counted_ordered : is_member n c.access ≡ true → IsOrderedAfter Counted
     counted_ordered is_there =
         subst (λ b. IsOrdered (with_applied c.records n r g) (without_member n c.access ++ member n w ∷ []) (if b then without_number n ns ++ n ∷ [] else ns) ws) (sym (o.members n ∙ is_there))
         (enters c.records (with_applied c.records n r g) c.access ns h ws n g w x r is there o (keeps_fate c n g w moved r Counted there) put_others
         (without_number n ns) (without_member n c.access) (get_inserted c.records n seen) (left_taken_out n ns) (once_taken_out n ns o.once) (members_taken_out ns c.access o.members n) (counted_taken_out n c.access))
 
-    module _ (out : is_member n c.access ≡ false) where
-      uncounted : counted_of n c.access ≡ None
-      uncounted = none_by_test (counted_of n c.access) out
-
+    module _ (uncounted : counted_of n c.access ≡ None) where
       unlisted : is_listed n ns ≡ false
-      unlisted = o.members n ∙ out
+      unlisted = o.members n ∙ ap is_some uncounted
 
-      admitted_ordered : Follows Admitted
+      admitted_ordered : IsOrderedAfter Admitted
       admitted_ordered = enters c.records (with_applied c.records n r g) c.access ns h ws n g w x r is there o (keeps_fate c n g w moved r Admitted there) put_others
           ns c.access (get_inserted c.records n seen) (left_unlisted n ns unlisted) o.once o.members uncounted
 
@@ -168,7 +155,7 @@ module _ {K V : Type 0} (capacity : Option ℕ) (policy : EvictionPolicy) (c : C
       rejected_ordered access are false keeps = stays_out c.records (with_applied c.records n r g) c.access ns h ws n g w x r is there o keeps put_others
           ns access (inr (get_inserted c.records n seen)) (left_unlisted n ns unlisted) o.once are
 
-      preferred_ordered : (victims : List Member) → Follows (Preferred victims)
+      preferred_ordered : (victims : List Member) → IsOrderedAfter (Preferred victims)
       preferred_ordered victims =
           enters c.records (with_applied (without_records victims c.records) n r g) c.access ns h ws n g w x r is there o (keeps_fate c n g w moved r (Preferred victims) there)
           (λ k apart. elim (gone_or_same victims c.records k) [ inl same ↦ inl (get_past_insert (without_records victims c.records) n seen k apart ∙ same) | inr none ↦ inr (get_past_insert (without_records victims c.records) n seen k apart ∙ none) ])
@@ -176,51 +163,27 @@ module _ {K V : Type 0} (capacity : Option ℕ) (policy : EvictionPolicy) (c : C
           (left_without victims n ns (unlisted_without victims n ns unlisted)) (once_without victims ns o.once) (members_without victims ns (all_to_back moved c.access) (members_all_moved ns c.access o.members moved))
           (uncounted_without victims n (all_to_back moved c.access) (counted-all_to_back moved n c.access ∙ uncounted))
 
-      too_heavy_ordered : Follows TooHeavy
-      too_heavy_ordered = rejected_ordered c.access o.members (r.generation == g) (keeps_fate c n g w moved r TooHeavy there)
-
-      refused_ordered : Follows Refused
-      refused_ordered = rejected_ordered (all_to_back moved c.access) (members_all_moved ns c.access o.members moved) (r.generation == g) (keeps_fate c n g w moved r Refused there)
-
-      newcomer_ordered : Follows (fate_of_newcomer capacity policy c w x)
-      newcomer_ordered =
-          elim (has_room capacity (total_weight c.access) w) as (λ b. Follows (if b then Admitted else (if has_room capacity 0 w then fate_by_policy policy c w x else TooHeavy))) [
-            | true ↦ admitted_ordered
-            | false ↦ elim (has_room capacity 0 w) as (λ b. Follows (if b then fate_by_policy policy c w x else TooHeavy)) [
-              | true ↦ by_policy policy
-              | false ↦ too_heavy_ordered
-            ]
-          ]
-        where
-          by_frequency : (v : Option (List Member)) → Follows (fate_by_frequency c x v)
-          by_frequency None = refused_ordered
-          by_frequency (Some victims) = elim (is_preferred c x victims) as (λ b. Follows (if b then Preferred victims else Refused)) [ true ↦ preferred_ordered victims | false ↦ refused_ordered ]
-
-          by_policy : (policy : EvictionPolicy) → Follows (fate_by_policy policy c w x)
-          by_policy Lru = admitted_ordered
-          by_policy TinyLfu = by_frequency (victims_for c w)
-
-    -- of any record
-    upsert_ordered : Follows (fate_of_record capacity policy c n g w x r)
-    upsert_ordered =
-        let newer : IsNewer c.records (Upsert n g w x) = subst (IsNewer c.records) is (o.newer h (first_of h ws)) in
-        subst (λ b. Follows (if b then (if is_member n c.access then Counted else fate_of_newcomer capacity policy c w x) else (if is_member n c.access then Overtaken else Ignored))) (sym (lt-ltb r.applied g (newer r there)))
-        (elim (is_member n c.access) as (λ b. is_member n c.access ≡ b → Follows (if b then Counted else fate_of_newcomer capacity policy c w x)) [
-          | true ↦ counted_ordered
-          | false ↦ newcomer_ordered
-        ] refl)
+    -- with whatever fate
+    fate_ordered : (f : Fate) → r.applied < g → Known c n g w r f → IsOrderedAfter f
+    fate_ordered Ignored newer known = absurd (omega arith)
+    fate_ordered Overtaken newer known = absurd (omega arith)
+    fate_ordered Counted newer known = counted_ordered known.1
+    fate_ordered Admitted newer known = admitted_ordered known.1
+    fate_ordered TooHeavy newer known = rejected_ordered known.1 c.access o.members (r.generation == g) (keeps_fate c n g w moved r TooHeavy there)
+    fate_ordered (Preferred victims) newer known = preferred_ordered known.1 victims
+    fate_ordered Refused newer known = rejected_ordered known.1 (all_to_back moved c.access) (members_all_moved ns c.access o.members moved) (r.generation == g) (keeps_fate c n g w moved r Refused there)
 
   -- whatever it is
   pub write_ordered : (p : Operation) → h.operation ≡ p → IsOrdered (after_write capacity policy c p moved).records (after_write capacity policy c p moved).access (written_after_write true capacity policy c ns p) ws
-  write_ordered (Removal n g) is = removal_ordered n g
+  write_ordered (Removal n g) is = number_taken c.records c.access ns ws n c.records (λ k apart. inl refl) (keeps_itself c.records) (λ p old. old) (front_taken c.records c.access ns ws h o)
   write_ordered (Upsert n g w x) is = found (get c.records n) refl
     where
       found : (v : Option (Record K V)) → get c.records n ≡ v →
           IsOrdered (option_map_or (λ r. after_fate c n g w moved r (option_map_or (fate_of_record capacity policy c n g w x) v Ignored)) v c).records
           (option_map_or (λ r. after_fate c n g w moved r (option_map_or (fate_of_record capacity policy c n g w x) v Ignored)) v c).access
           (written_after_fate true n ns (option_map_or (fate_of_record capacity policy c n g w x) v Ignored)) ws
-      found None there = late_ordered
-      found (Some r) there = upsert_ordered n g w x r is there
+      found None there = front_taken c.records c.access ns ws h o
+      found (Some r) there = fate_ordered n g w x r is there (fate_of_record capacity policy c n g w x r) (subst (IsNewer c.records) is (o.newer h (first_of h ws)) r there) (fate_known capacity policy c n g w x r)
 
 -- ---- the queues and the steps of a run
 
@@ -248,25 +211,6 @@ module _ {K V : Type 0} (ns : List ℕ) (ws : List Ticketed) where
   reads_ordered c (Miss hash ∷ rs) o = reads_ordered (after_read c (Miss hash)) rs o
 
 module _ {K V P : Type 0} (says : P → K → V → Bool → Type 0) (q : Tests) (ws : List Ticketed) where
-  -- a record leaves
-  leave_ordered : (c : Contents K V) (ns : List ℕ) (n : ℕ) → IsOrdered c.records c.access ns ws → IsOrdered (remove c.records n) (without_member n c.access) (without_number n ns) ws
-  leave_ordered c ns n o = record {
-    once = once_taken_out n ns o.once;
-    members = members_taken_out ns c.access o.members n;
-    newer = λ h waits. newer h.operation (o.newer h waits);
-    rises = left_taken_out n ns (settled_at c.records) (settled_at (remove c.records n)) (map (waiting_at c.records) ws) (map (waiting_at (remove c.records n)) ws)
-        (settled_less n c.records (remove c.records n) (λ k apart. inl (get_past_remove c.records n k apart)))
-        (thins_all (waiting_at c.records) (waiting_at (remove c.records n)) ws (waiting_less c.records (remove c.records n) (keeps_remove c.records n))) 0 o.rises;
-    later = o.later;
-  }
-    where
-      newer : (p : Operation) → IsNewer c.records p → IsNewer (remove c.records n) p
-      newer (Removal m g) old = tt
-      newer (Upsert m g w x) old = λ r there. elim (same_or_apart m n) [
-        | inl same ↦ (let none = get_removed c.records n in let e = ap (get (remove c.records n)) same in cc)
-        | inr apart ↦ old r (sym (get_past_remove c.records n m apart) ∙ there)
-      ]
-
   -- an unsettled member goes to the back
   back_ordered : (c : Contents K V) (ns : List ℕ) (n : ℕ) → is_settled c.records n ≡ false → IsOrdered c.records c.access ns ws → IsOrdered c.records (to_back n c.access) (number_to_back n ns) ws
   back_ordered c ns n unsettled o = record {
@@ -289,7 +233,7 @@ module _ {K V P : Type 0} (says : P → K → V → Bool → Type 0) (q : Tests)
   pub choices_ordered : (c : Contents K V) (ps : List (Registered P)) (ns : List ℕ) (xs : List Choice) → AreJustified says q c ps xs → IsOrdered c.records c.access ns ws →
       IsOrdered (after_choices c xs).records (after_choices c xs).access (written_after_choices ns xs) ws
   choices_ordered c ps ns [] may o = o
-  choices_ordered c ps ns (Removes n cause ∷ xs) may o = choices_ordered (after_choice c (Removes n cause)) ps (without_number n ns) xs may.1 (leave_ordered c ns n o)
+  choices_ordered c ps ns (Removes n cause ∷ xs) may o = choices_ordered (after_choice c (Removes n cause)) ps (without_number n ns) xs may.1 (number_taken c.records c.access ns ws n (remove c.records n) (λ k apart. inl (get_past_remove c.records n k apart)) (keeps_remove c.records n) (newer_left c.records n) o)
   choices_ordered c ps ns (MovesToBack n ∷ xs) may o = choices_ordered (after_choice c (MovesToBack n)) ps (number_to_back n ns) xs may.1 (back_ordered c ns n may.0.1 o)
   choices_ordered c ps ns (Drops i ∷ xs) may o = choices_ordered c (remove_at ps i) ns xs may.1 o
 

@@ -1,29 +1,20 @@
 -- The changes that calls in the order of time make keep a state in order.
-use Rattle.std.proofs.Common.{◌≡◌, refl, ℕ, ◌+◌, ◌<◌, ◌≤◌, Bool, false, ◌==◌, List, map, Option, Some, None, ap, sym, ◌∙◌, subst, ◌⊎◌, inl, inr, arith, if◌then◌else◌}
-use Rattle.std.specs.Prelude.{Contains, option_and_then}
+use Rattle.std.proofs.Common.{◌≡◌, refl, ℕ, ◌+◌, ◌<◌, ◌≤◌, Bool, ◌==◌, List, map, Option, Some, None, ap, sym, ◌∙◌, subst, ◌⊎◌, inl, inr, arith, if◌then◌else◌, Contains, option_and_then}
 use Rattle.std.specs.FinMap.{get, insert, remove}
-use Rattle.moka_parts.specs.declared.policy.Instant.{Instant}
-use Rattle.moka_parts.specs.declared.records.Record.{Record}
-use Rattle.moka_parts.specs.declared.records.Registered.{Registered}
-use Rattle.moka_parts.specs.declared.records.ReadOperation.{ReadOperation}
-use Rattle.moka_parts.specs.declared.records.Ticketed.{Ticketed}
-use Rattle.moka_parts.specs.declared.records.Operation.{Operation}
-use Rattle.moka_parts.specs.declared.records.Operation.TheVariants.{Upsert, Removal}
-use Rattle.moka_parts.specs.Housekeeping.{Housekeeping}
+use Rattle.moka_parts.proofs.Types.{Instant, Record, Registered, ReadOperation, Ticketed, Operation, Upsert, Removal, Housekeeping, State}
 use Rattle.moka_parts.specs.Records.{record_of_key, with_record, counted_of}
-use Rattle.moka_parts.specs.State.{State}
 use Rattle.moka_parts.specs.Settling.{IsWaiting, IsTracked, IsValid, WaitsAt}
 use Rattle.moka_parts.specs.Order.{waiting_by_ticket, written_if, written_by, IsNewer, IsInOrder}
 use Rattle.moka_parts.specs.Calls.{handing_out, new_record, inserted, updated_record, replaced, hit_record, after_hit}
-use Rattle.moka_parts.proofs.Maps.{same_or_apart, itself_tested, get_inserted, get_past_insert, get_removed, get_past_remove, apart_below}
+use Rattle.moka_parts.proofs.Maps.{same_or_apart, itself_tested, get_inserted, get_past_insert, get_removed, get_past_remove, apart_below, found_inserted}
 use Rattle.moka_parts.proofs.RunKeeps.{keeps_remove}
-use Rattle.moka_parts.proofs.Rising.{waits_at}
 use Rattle.moka_parts.proofs.Rises.{thins_each, thins_all}
-use Rattle.moka_parts.proofs.InOrder.{settled_moment, settled_at, waiting_at, waiting_less, IsLater, IsOrdered}
+use Rattle.moka_parts.proofs.InOrder.{settled_moment, settled_at, waiting_at, waiting_less, IsLater, IsOrdered, newer_left}
 use Rattle.moka_parts.proofs.OrderKept.{of_each}
 use Rattle.moka_parts.proofs.Tickets.{each_waits}
 use Rattle.moka_parts.proofs.OrderedStates.{ordered_from, in_order_from, handed_in_order}
 use Rattle.moka_parts.proofs.CallsKeep.{record_at_its_number, nothing_waits_of_next}
+use Rattle.moka_parts.proofs.Waiting.{waits_at}
 
 -- ---- one change of a state
 
@@ -50,19 +41,15 @@ module _ {K V X P W : Type 0} (s : State K V X P W) (ns : List ℕ) (o : IsInOrd
       put_waiting (Removal m k) t wait = inl refl
       put_waiting (Upsert m k v y) t wait = elim (same_or_apart m n) [
         | inl same ↦ (let old = older t k v y (subst (λ i. Contains (waiting_by_ticket s) (record { ticket = t; operation = Upsert i k v y })) same wait) in
-            inr (ap (option_and_then (written_if (insert s.records n q) k)) (ap (get (insert s.records n q)) same ∙ get_inserted s.records n q) ∙ ap (λ b. if b then Some q.written.0 else None) (differs k g q.generation old.1 present)))
+            inr (ap (option_and_then (written_if (insert s.records n q) k)) (ap (get (insert s.records n q)) same ∙ get_inserted s.records n q) ∙ ap (λ b. if b then Some q.written.0 else None) (apart_below k q.generation (subst (λ i. k < i) (sym present) old.1))))
         | inr apart ↦ inl (ap (option_and_then (written_if s.records k)) (get_past_insert s.records n q m apart))
       ]
-        where
-          differs : (k g generation : ℕ) → k < g → generation ≡ g → (k == generation) ≡ false
-          differs k g generation lt same = grind (arith, lt, same)
 
       put_newer : (p : Operation) (t : ℕ) → Contains (waiting_by_ticket s) (record { ticket = t; operation = p }) → IsNewer s.records p → IsNewer (insert s.records n q) p
       put_newer (Removal m k) t wait old = tt
-      put_newer (Upsert m k v y) t wait old = λ r there. elim (same_or_apart m n) [
-        | inl same ↦ (let both : Some q ≡ Some r = sym (get_inserted s.records n q) ∙ sym (ap (get (insert s.records n q)) same) ∙ there in let one : q ≡ r = cc in
-            subst (λ (z : Record K V). z.applied < k) one (older t k v y (subst (λ i. Contains (waiting_by_ticket s) (record { ticket = t; operation = Upsert i k v y })) same wait)).0)
-        | inr apart ↦ old r (sym (get_past_insert s.records n q m apart) ∙ there)
+      put_newer (Upsert m k v y) t wait old = λ r there. elim (found_inserted s.records n q m r there) [
+        | inl (same, one) ↦ subst (λ (z : Record K V). z.applied < k) one (older t k v y (subst (λ i. Contains (waiting_by_ticket s) (record { ticket = t; operation = Upsert i k v y })) same wait)).0
+        | inr (apart, before) ↦ old r before
       ]
 
       put_later : (p : Operation) (t : ℕ) → Contains (waiting_by_ticket s) (record { ticket = t; operation = p }) → IsLater p (Upsert n g w x)
@@ -70,9 +57,9 @@ module _ {K V X P W : Type 0} (s : State K V X P W) (ns : List ℕ) (o : IsInOrd
       put_later (Upsert m k v y) t wait = λ same. (older t k v y (subst (λ i. Contains (waiting_by_ticket s) (record { ticket = t; operation = Upsert i k v y })) same wait)).1
 
       put_last : (k : ℕ) (r : Record K V) → get (insert s.records n q) k ≡ Some r → r.written.0 ≤ q.written.0
-      put_last k r there = elim (same_or_apart k n) [
-        | inl same ↦ (let both : Some q ≡ Some r = sym (get_inserted s.records n q) ∙ sym (ap (get (insert s.records n q)) same) ∙ there in let one : q ≡ r = cc in subst (λ (z : Record K V). z.written.0 ≤ q.written.0) one (omega arith))
-        | inr apart ↦ last k r (sym (get_past_insert s.records n q k apart) ∙ there)
+      put_last k r there = elim (found_inserted s.records n q k r there) [
+        | inl (same, one) ↦ subst (λ (z : Record K V). z.written.0 ≤ q.written.0) one (omega arith)
+        | inr (apart, before) ↦ last k r before
       ]
 
       pub put_in_order : IsInOrder (handing_out (record s { records = insert s.records n q }) (Upsert n g w x)) ns
@@ -85,19 +72,12 @@ module _ {K V X P W : Type 0} (s : State K V X P W) (ns : List ℕ) (o : IsInOrd
     -- a record leaves, and its removal is handed out
     pub taken_in_order : (n g : ℕ) → IsInOrder (handing_out (record s { records = remove s.records n }) (Removal n g)) ns
     taken_in_order n g = handed_in_order s ns (remove s.records n) (Removal n g) h.numbered.ticketed h.rising o settled
-        (λ a there. waiting_less s.records (remove s.records n) (keeps_remove s.records n) a) (λ a there. newer a.operation (o.newer a there)) tt (λ a there. any a.operation) (inl refl)
+        (λ a there. waiting_less s.records (remove s.records n) (keeps_remove s.records n) a) (λ a there. newer_left s.records n a.operation (o.newer a there)) tt (λ a there. any a.operation) (inl refl)
       where
         settled : (k : ℕ) → (settled_at (remove s.records n) k ≡ settled_at s.records k) ⊎ (settled_at (remove s.records n) k ≡ None)
         settled k = elim (same_or_apart k n) [
           | inl same ↦ inr (ap settled_moment (ap (get (remove s.records n)) same ∙ get_removed s.records n))
           | inr apart ↦ inl (ap settled_moment (get_past_remove s.records n k apart))
-        ]
-
-        newer : (p : Operation) → IsNewer s.records p → IsNewer (remove s.records n) p
-        newer (Removal m k) old = tt
-        newer (Upsert m k v y) old = λ r there. elim (same_or_apart m n) [
-          | inl same ↦ (let none = get_removed s.records n in let e = ap (get (remove s.records n)) same in cc)
-          | inr apart ↦ old r (sym (get_past_remove s.records n m apart) ∙ there)
         ]
 
         any : (p : Operation) → IsLater p (Removal n g)
@@ -136,10 +116,9 @@ module _ {K V X P W : Type 0} (s : State K V X P W) (ns : List ℕ) (o : IsInOrd
 
         newer : (p : Operation) → IsNewer s.records p → IsNewer (insert s.records n q) p
         newer (Removal m k) old = tt
-        newer (Upsert m k v y) old = λ z at. elim (same_or_apart m n) [
-          | inl same ↦ (let both : Some q ≡ Some z = sym (get_inserted s.records n q) ∙ sym (ap (get (insert s.records n q)) same) ∙ at in let one : q ≡ z = cc in
-              subst (λ (z : Record K V). z.applied < k) one (subst (λ i. i < k) (sym applied) (old r (ap (get s.records) same ∙ there))))
-          | inr apart ↦ old z (sym (get_past_insert s.records n q m apart) ∙ at)
+        newer (Upsert m k v y) old = λ z at. elim (found_inserted s.records n q m z at) [
+          | inl (same, one) ↦ subst (λ (z : Record K V). z.applied < k) one (subst (λ i. i < k) (sym applied) (old r (ap (get s.records) same ∙ there)))
+          | inr (apart, before) ↦ old z before
         ]
 
 -- ---- the changes that calls make

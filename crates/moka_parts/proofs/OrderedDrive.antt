@@ -1,33 +1,29 @@
 -- One call in the order of time, and lists of them: each keeps a state in order, and each whole run with all sent
 -- leaves nothing that is past its time.
-use Rattle.std.proofs.Common.{◌≡◌, refl, ℕ, true, false, ◌<◌, List, [], ◌∷◌, ◌++◌, map, filter, ap, sym, ◌∙◌, subst, inl, inr, ◌||◌, true≢false, arith}
-use Rattle.std.specs.Prelude.{Contains, filter_map}
+use Rattle.std.proofs.Common.{◌≡◌, refl, ℕ, true, false, ◌<◌, List, [], ◌∷◌, ◌++◌, map, filter, ap, sym, ◌∙◌, subst, inl, inr, ◌||◌, true≢false, arith, Contains, filter_map}
 use Rattle.std.specs.List.Sorted.{IsNonDecreasing, IsStrictlyIncreasing}
 use Rattle.std.specs.FinMap.{entries}
 use Rattle.std.specs.Cmp.{IsEquivalence}
-use Rattle.moka_parts.specs.declared.records.Ticketed.{Ticketed}
-use Rattle.moka_parts.specs.declared.records.Operation.{Operation}
-use Rattle.moka_parts.specs.declared.calls.Call.{Call}
-use Rattle.moka_parts.specs.declared.calls.Reply.{Reply}
-use Rattle.moka_parts.specs.Records.{Notice, is_listed, is_member, is_settled}
-use Rattle.moka_parts.specs.State.{State, Settings, Meaning, keeps_write_list}
-use Rattle.moka_parts.specs.Maintenance.{Terms, Course, MaintenanceRun}
+use Rattle.moka_parts.proofs.Types.{Ticketed, Operation, Call, Reply, Notice, State, Settings, Meaning, Terms, Course, Engine, Step}
+use Rattle.moka_parts.specs.Records.{is_listed, is_member, is_settled}
+use Rattle.moka_parts.specs.State.{keeps_write_list}
+use Rattle.moka_parts.specs.Maintenance.{MaintenanceRun}
 use Rattle.moka_parts.specs.Settling.{IsValid}
 use Rattle.moka_parts.specs.Order.{waiting_by_ticket, written_at, written_by, IsWriteList, IsInOrder, IsOrderly, write_list_at_end}
 use Rattle.moka_parts.specs.Laws.{StaysInOrder}
-use Rattle.moka_parts.specs.Runs.{Engine, CallStep, Step, AreSteps, AreOrderly, MakesCalls, PromisedRun, OrderlyRun, IsEmpty, last_state}
+use Rattle.moka_parts.specs.Runs.{CallStep, AreSteps, AreOrderly, MakesCalls, PromisedRun, OrderlyRun, IsEmpty, last_state}
 use Rattle.moka_parts.specs.Listed.{ListedRun, ListedStep, AreListedSteps}
 use Rattle.moka_parts.specs.Drives.{Drives}
 use Rattle.moka_parts.proofs.Maps.{itself_tested, entries-empty}
 use Rattle.moka_parts.proofs.RunsGoOn.{promised_is_run}
 use Rattle.moka_parts.proofs.StepsKeep.{hit_valid, call_keeps}
-use Rattle.moka_parts.proofs.Promises.{weaker_call}
+use Rattle.moka_parts.proofs.Promises.{weaker_call, is_of_reference}
 use Rattle.moka_parts.proofs.OrderedStates.{run_in_order}
 use Rattle.moka_parts.proofs.OrderedCalls.{order_with, hit_in_order}
 use Rattle.moka_parts.proofs.Kept.{kept_by_run}
 use Rattle.moka_parts.proofs.OrderedSteps.{IsListedIn, call_ends}
-use Rattle.moka_parts.proofs.ListsOfCalls.{calls_tell_each_once}
 use Rattle.moka_parts.proofs.OrderedRuns.{listed_is_promised, listed_run_ends, listed_is_orderly}
+use Rattle.moka_parts.proofs.ConservedCalls.{tells_each_once}
 
 -- ---- an empty cache
 
@@ -138,10 +134,10 @@ module _ {K V X L P W C I : Type 0} (m : Meaning K V X L P W C I) where
   pub drives_in_order : {S : Type 0} (calls : List (Call K V P)) (replies : List (Reply K V P)) (steps : List (Step K V X P W)) (old new : Engine K V S X L P W) (clock clock_after : C) (ids ids_after : I) →
       IsEquivalence m.eq → IsValid m.eq old.state → (keeps_write_list old.state.settings ≡ true → IsWriteList old.state old.write_list) →
       MakesCalls m (PromisedRun m.says m.read) calls replies steps old clock ids new clock_after ids_after → AreListedSteps m old.state old.write_list steps new.write_list → Drives m calls replies old clock ids new clock_after ids_after
-  drives_in_order calls replies steps old new clock clock_after ids ids_after laws valid listed made lists = record {
+  drives_in_order {S} calls replies steps old new clock clock_after ids ids_after laws valid listed made lists = record {
     steps = steps;
     is_run = made;
     listed = lists;
     orderly = λ empty orderly. listed_steps_orderly old.state old.write_list new.write_list steps laws valid (λ kept. empty_in_order old.state old.write_list empty (listed kept)) orderly lists;
-    told_once = λ listening. calls_tell_each_once m made laws valid listening;
+    told_once = λ listening. tells_each_once m laws old.state steps valid listening (is_of_reference S m calls replies steps old new clock clock_after ids ids_after made).are_steps;
   }

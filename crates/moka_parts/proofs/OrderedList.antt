@@ -1,9 +1,8 @@
 -- The course of the write list: after each step it has just the members' numbers, each once.
 use Rattle.std.proofs.Common.{ℕ, List}
-use Rattle.moka_parts.specs.declared.records.Member.{Member}
+use Rattle.moka_parts.proofs.Types.{Member, Contents, Choice, Removes, MovesToBack, Drops}
 use Rattle.moka_parts.specs.Records.{without_member, to_back, without_number, number_to_back}
-use Rattle.moka_parts.specs.State.{Contents}
-use Rattle.moka_parts.specs.Maintenance.{Choice, Removes, MovesToBack, Drops, after_choice}
+use Rattle.moka_parts.specs.Maintenance.{after_choice}
 use Rattle.moka_parts.specs.Order.{IsListOf, written_after_choice}
 use Rattle.moka_parts.proofs.WriteList.{once_taken_out, once_moved}
 use Rattle.moka_parts.proofs.InOrder.{members_taken_out, members_both_moved}

@@ -1,24 +1,19 @@
 -- States in order: after a run, a send, an insert, a hit and a removal.
-use Rattle.std.proofs.Common.{◌≡◌, refl, ℕ, ◌+◌, ◌<◌, ◌≤◌, Bool, true, false, cond, ◌==◌, List, [], ◌∷◌, ◌++◌, map, filter, length, Option, Some, None, option_map, is_some, ap, sym, ◌∙◌, subst, ◌⊎◌, inl, inr, arith, append_assoc, true≢false, if◌then◌else◌}
-use Rattle.std.specs.Prelude.{Contains, filter_map, option_and_then}
+use Rattle.std.proofs.Common.{◌≡◌, refl, ℕ, ◌<◌, ◌≤◌, Bool, true, false, cond, List, [], ◌∷◌, ◌++◌, map, filter, Option, Some, None, option_map, is_some, ap, sym, ◌∙◌, subst, ◌⊎◌, inl, inr, arith, append_assoc, true≢false, if◌then◌else◌, ◌==◌, Contains, filter_map, option_and_then}
 use Rattle.std.specs.Option.{option_map_or}
-use Rattle.std.specs.List.{IsDistinct, AllByRecursion, cons_option}
+use Rattle.std.specs.List.{AllByRecursion, cons_option}
 use Rattle.std.specs.List.Sorted.{IsStrictlyIncreasing, IsNonDecreasing}
 use Rattle.std.proofs.lemmas.List.{map-append}
 use Rattle.std.proofs.lemmas.List.Elements.{filter_map-append, Contains-push_cases}
 use Rattle.std.specs.FinMap.{get, insert, remove, entries, contains_key}
-use Rattle.moka_parts.specs.declared.records.Record.{Record}
-use Rattle.moka_parts.specs.declared.records.Ticketed.{Ticketed}
-use Rattle.moka_parts.specs.declared.records.Operation.{Operation}
-use Rattle.moka_parts.specs.declared.records.Operation.TheVariants.{Upsert, Removal}
-use Rattle.moka_parts.specs.Records.{Records, is_member, is_applied, is_settled}
-use Rattle.moka_parts.specs.State.{State, keeps_write_list}
-use Rattle.moka_parts.specs.Maintenance.{Freedom, AreFree, after_run}
+use Rattle.moka_parts.proofs.Types.{Record, Ticketed, Operation, Upsert, Removal, Records, State, Freedom}
+use Rattle.moka_parts.specs.Records.{is_applied, is_settled}
+use Rattle.moka_parts.specs.State.{keeps_write_list}
+use Rattle.moka_parts.specs.Maintenance.{AreFree, after_run}
 use Rattle.moka_parts.specs.Calls.{handing_out}
-use Rattle.moka_parts.specs.Runs.{IsEmpty}
 use Rattle.moka_parts.specs.Settling.{AreTicketed, AreRising}
-use Rattle.moka_parts.specs.Order.{waiting_by_ticket, written_at, written_if, written_by, IsNewer, IsInOrder, write_list_at_end}
-use Rattle.moka_parts.proofs.Maps.{entries-empty, AreApart, same_or_apart, get_past_insert, get_removed, get_past_remove}
+use Rattle.moka_parts.specs.Order.{waiting_by_ticket, written_at, written_by, IsNewer, IsInOrder, write_list_at_end}
+use Rattle.moka_parts.proofs.Maps.{AreApart, same_or_apart, get_past_insert, get_removed, get_past_remove}
 use Rattle.moka_parts.proofs.Entries.{entries_pushed, entries_popped}
 use Rattle.moka_parts.proofs.Rises.{Climbs, climbs_from, non_decreasing_from, present, present_of, Rises, thins_each, thins_every, IsUpTo, rises_pushed, rises_with_none}
 use Rattle.moka_parts.proofs.InOrder.{settled_moment, settled_at, waiting_at, IsLater, AreLater, IsOrdered}
@@ -106,29 +101,23 @@ later_pushed [] x later last = (tt, tt)
 later_pushed (h ∷ ws) x later last = (all_append (λ (q : Ticketed). IsLater h.operation q.operation) ws (x ∷ []) later.0 (last.0, tt), later_pushed ws x later.1 last.1)
 
 module _ {K V : Type 0} (records : Records K V) (m : ℕ) (up : (k : ℕ) (r : Record K V) → get records k ≡ Some r → r.written.0 ≤ m) where
-  settled_upto : (k : ℕ) → IsUpTo m (settled_at records k)
-  settled_upto k = go (get records k) refl
+  -- of a record that passes a test
+  tested_upto : (test : Record K V → Bool) (k : ℕ) → IsUpTo m (option_and_then (λ r. if test r then Some r.written.0 else None) (get records k))
+  tested_upto test k = go (get records k) refl
     where
-      go : (v : Option (Record K V)) → get records k ≡ v → IsUpTo m (settled_moment v)
+      go : (v : Option (Record K V)) → get records k ≡ v → IsUpTo m (option_and_then (λ r. if test r then Some r.written.0 else None) v)
       go None e = tt
-      go (Some r) e = elim (is_applied r) as (λ b. IsUpTo m (if b then Some r.written.0 else None)) [ true ↦ up k r e | false ↦ tt ]
+      go (Some r) e = elim (test r) as (λ b. IsUpTo m (if b then Some r.written.0 else None)) [ true ↦ up k r e | false ↦ tt ]
 
-  waiting_upto : (h : Ticketed) → IsUpTo m (waiting_at records h)
-  waiting_upto h = go h.operation
-    where
-      at : (n g : ℕ) (v : Option (Record K V)) → get records n ≡ v → IsUpTo m (option_and_then (written_if records g) v)
-      at n g None e = tt
-      at n g (Some r) e = elim (g == r.generation) as (λ b. IsUpTo m (if b then Some r.written.0 else None)) [ true ↦ up n r e | false ↦ tt ]
-
-      go : (o : Operation) → IsUpTo m (written_by records o)
-      go (Removal n g) = tt
-      go (Upsert n g w x) = at n g (get records n) refl
+  waiting_upto : (o : Operation) → IsUpTo m (written_by records o)
+  waiting_upto (Removal n g) = tt
+  waiting_upto (Upsert n g w x) = tested_upto (λ r. g == r.generation) n
 
   -- nothing was written later
   all_upto : (ns : List ℕ) (ws : List Ticketed) → AllByRecursion (IsUpTo m) (map (settled_at records) ns ++ map (waiting_at records) ws)
   all_upto ns ws = all_append (IsUpTo m) (map (settled_at records) ns) (map (waiting_at records) ws)
-      (all_map (IsUpTo m) (settled_at records) ns (all_of (λ k. IsUpTo m (settled_at records k)) ns (λ k there. settled_upto k)))
-      (all_map (IsUpTo m) (waiting_at records) ws (all_of (λ h. IsUpTo m (waiting_at records h)) ws (λ h there. waiting_upto h)))
+      (all_map (IsUpTo m) (settled_at records) ns (all_of (λ k. IsUpTo m (settled_at records k)) ns (λ k there. tested_upto is_applied k)))
+      (all_map (IsUpTo m) (waiting_at records) ws (all_of (λ h. IsUpTo m (waiting_at records h)) ws (λ h there. waiting_upto h.operation)))
 
 module _ {K V X P W : Type 0} (s : State K V X P W) (ns : List ℕ) (records : Records K V) (p : Operation) (given : AreTicketed s.outstanding s.writes s.next_ticket) (rising : AreRising s.outstanding s.writes) (o : IsInOrder s ns) where
   -- where the records before have the same moments or none, and the operation comes last
@@ -177,28 +166,3 @@ module _ {K V X P W : Type 0} (s : State K V X P W) (ns : List ℕ) (records : R
       below : (h : Ticketed) (ticket : ℕ) → Contains s.writes h → contains_key (insert s.outstanding s.next_ticket p) ticket ≡ true → (ticket ≡ s.next_ticket) ⊎ AreApart ticket s.next_ticket → h.ticket < ticket
       below h ticket there out (inl e) = subst (λ n. h.ticket < n) (sym e) (given.sent h there)
       below h ticket there out (inr apart) = o.below h ticket there (sym (ap is_some (get_past_insert s.outstanding s.next_ticket p ticket apart)) ∙ out)
-
--- ---- the start
-
--- where nothing is kept and nothing waits
-pub empty_in_order : {K V X P W : Type 0} (s : State K V X P W) → IsEmpty s → IsInOrder s []
-unfolding IsDistinct
-empty_in_order {K} {V} s none = record {
-  listed = (tt, λ n. sym (ap (is_member n) none.access));
-  rising = λ k lt. absurd (no_queue k lt);
-  below = λ h ticket there at. absurd (no_write h there);
-  newer = λ h there. absurd (nothing h there);
-  written = subst (λ ws. IsNonDecreasing (filter_map (λ (h : Ticketed). written_by s.records h.operation) ws)) (sym waits) (λ i j d le lt. absurd (omega arith));
-}
-  where
-    waits : waiting_by_ticket s ≡ []
-    waits = ap (λ hs. hs ++ handed_out s.outstanding) none.writes ∙ ap (map (λ (e : ℕ × Operation). record { ticket = e.0; operation = e.1 })) (ap entries none.outstanding ∙ entries-empty)
-
-    no_queue : (k : ℕ) → k + 1 < length (map (λ (h : Ticketed). h.ticket) s.writes) → ⊥
-    no_queue k lt = let empty : length (map (λ (h : Ticketed). h.ticket) s.writes) ≡ 0 = ap (λ (hs : List Ticketed). length (map (λ (h : Ticketed). h.ticket) hs)) none.writes in omega arith
-
-    no_write : (h : Ticketed) → Contains s.writes h → ⊥
-    no_write h there = let gone : Contains [] h = subst (λ (hs : List Ticketed). Contains hs h) none.writes there in let below : gone.0 < 0 = gone.1 in omega arith
-
-    nothing : (h : Ticketed) → Contains (waiting_by_ticket s) h → ⊥
-    nothing h there = let gone : Contains [] h = subst (λ (hs : List Ticketed). Contains hs h) waits there in let below : gone.0 < 0 = gone.1 in omega arith

@@ -1,13 +1,8 @@
 -- A call in the order of time leaves the write list and a state in order with it, unless it makes a run of maintenance;
 -- then it ends as the run does.
 use Rattle.std.proofs.Common.{◌≡◌, ℕ, ◌+◌, true, List, [], ◌∷◌, ◌++◌, Some, None, is_some, ap, sym, subst, ◌⊎◌, inl, inr}
-use Rattle.moka_parts.specs.declared.records.ReadOperation.{ReadOperation}
-use Rattle.moka_parts.specs.declared.calls.Call.{Call}
-use Rattle.moka_parts.specs.declared.calls.Reply.{Reply}
-use Rattle.moka_parts.specs.Records.{Notice}
-use Rattle.moka_parts.specs.State.{State, Settings, Meaning, Events, keeps_write_list}
-use Rattle.moka_parts.specs.Housekeeping.{Housekeeping}
-use Rattle.moka_parts.specs.Maintenance.{Terms, Course}
+use Rattle.moka_parts.proofs.Types.{ReadOperation, Call, Reply, Notice, State, Settings, Meaning, Events, Housekeeping, Terms, Course}
+use Rattle.moka_parts.specs.State.{keeps_write_list}
 use Rattle.moka_parts.specs.Settling.{IsValid}
 use Rattle.moka_parts.specs.Order.{IsInOrder, IsOrderly}
 use Rattle.moka_parts.specs.Runs.{CallStep}
@@ -24,8 +19,8 @@ module _ {K V X L P W C I : Type 0} (m : Meaning K V X L P W C I) (settings : Se
     (run_ends : (s : State K V X P W) (terms : Terms) (course : Course) (notices : List (Notice K V)) (t : State K V X P W) → IsValid m.eq s → IsListedIn settings ns s → Runs s terms course notices t → After t)
     (moved : (t : State K V X P W) (reads : List ReadOperation) (housekeeping : Housekeeping) → After t → After (record t { reads = reads; housekeeping = housekeeping })) where
   -- a run was made, or the list is as it was
-  abbrev pub Ends : Events K V → State K V X P W → Type 0
-  Ends e t = After t ⊎ ((e.passes ≡ None) × IsListedIn settings ns t)
+  abbrev pub EndsListed : Events K V → State K V X P W → Type 0
+  EndsListed e t = After t ⊎ ((e.passes ≡ None) × IsListedIn settings ns t)
 
   -- what a run may begin with
   abbrev MayRun : State K V X P W → Type 0
@@ -49,7 +44,7 @@ module _ {K V X L P W C I : Type 0} (m : Meaning K V X L P W C I) (settings : Se
   }
 
   -- any call
-  pub call_ends : (s t : State K V X P W) (c : Call K V P) (r : Reply K V P) (e : Events K V) → IsValid m.eq s → IsListedIn settings ns s → IsOrderly s c → CallStep m Runs s c r e t → Ends e t
+  pub call_ends : (s t : State K V X P W) (c : Call K V P) (r : Reply K V P) (e : Events K V) → IsValid m.eq s → IsListedIn settings ns s → IsOrderly s c → CallStep m Runs s c r e t → EndsListed e t
   call_ends s t c r e valid h orderly step = elim (each_call m Runs Runs MayRun (IsListedIn settings ns) s t c r e (stays_listed s c valid h orderly) step) [
     | inl x ↦ inl (subst After (sym x.ends) (moved x.mid x.reads x.housekeeping (run_ends x.from x.terms x.course e.notices x.mid x.begins.0 x.begins.1 x.run)))
     | inr (none, listed, again) ↦ inr (none.passes, listed)

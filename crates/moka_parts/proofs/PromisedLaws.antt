@@ -1,12 +1,9 @@
 -- Laws of the runs and calls that contracts promise, each with its write list before and after it.
-use Rattle.std.proofs.Common.{◌≡◌, refl, ℕ, ◌<◌, Bool, true, false, [], ◌∷◌, length, Option, Some, None, is_some, Result, Ok, Err, ap, sym, ◌∙◌, subst, MatchBool, true≢false, arith}
+use Rattle.std.proofs.Common.{◌≡◌, refl, ℕ, ◌<◌, true, ◌∷◌, length, Option, Some, None, is_some, Result, Ok, Err, ap, sym, ◌∙◌, subst, true≢false, arith, Bool, []}
 use Rattle.std.specs.FinMap.{get}
 use Rattle.std.specs.Cmp.{IsEquivalence}
-use Rattle.moka_parts.specs.declared.records.Operation.{Operation}
-use Rattle.moka_parts.specs.declared.error.SendError.{SendError}
-use Rattle.moka_parts.specs.declared.error.SendError.TheVariants.{UnknownTicket, QueueFull}
-use Rattle.moka_parts.specs.State.{State, Meaning, is_disabled, keeps_write_list}
-use Rattle.moka_parts.specs.Maintenance.{Freedom, RunsBy, DoesNothing}
+use Rattle.moka_parts.proofs.Types.{Operation, SendError, UnknownTicket, QueueFull, State, Meaning}
+use Rattle.moka_parts.specs.State.{keeps_write_list}
 use Rattle.moka_parts.specs.Calls.{SendsAt, queue_length}
 use Rattle.moka_parts.specs.Order.{IsInOrder}
 use Rattle.moka_parts.specs.Laws.{RunsAreOfReference, RunsAgeOut, SendsAfterRun, StepsAreOfReference, ListsAreOfReference, CallsKeepOrder, ListsKeepOrder}
@@ -14,6 +11,7 @@ use Rattle.moka_parts.proofs.RunsGoOn.{promised_is_run}
 use Rattle.moka_parts.proofs.StepsKeep.{call_keeps}
 use Rattle.moka_parts.proofs.OrderedRuns.{listed_is_promised, listed_run_ages_out}
 use Rattle.moka_parts.proofs.OrderedDrive.{listed_call_made, listed_call_ends}
+use Rattle.moka_parts.proofs.Kept.{run_cases}
 
 module _ {K V X P : Type 0} (W : Type 0) (says : P → K → V → Bool → Type 0) (read : X → K → V → ℕ → Option ℕ → ℕ → Option ℕ) where
   -- such a run is one of the reference cache
@@ -26,19 +24,16 @@ module _ {K V X P : Type 0} (W : Type 0) (says : P → K → V → Bool → Type
 
   -- after it the queue of writes is empty, so what waits can be sent
   pub sends_after_run : SendsAfterRun W says read
-  sends_after_run before after s terms course notices t run on ticket a u waits step = go (is_disabled s.capacity) on (runs_are_of_reference before after s terms course notices t run).0
+  sends_after_run before after s terms course notices t run on ticket a u waits step =
+      run_cases (a ≡ Ok tt) s t _ says terms course notices (λ off nothing. absurd (true≢false (sym off ∙ on)))
+      (λ ch enabled by done. sends (subst (λ (x : State K V X P W). length x.writes < queue_length) (sym by.1) (omega arith)) (get t.outstanding ticket) a waits step)
+      (runs_are_of_reference before after s terms course notices t run).0
     where
       sends : length t.writes < queue_length → (o : Option Operation) (a : Result (Unit {0}) SendError) → is_some o ≡ true → SendsAt t ticket o a u → a ≡ Ok tt
       sends few (Some o) (Ok x) there step = refl
       sends few (Some o) (Err QueueFull) there step = absurd (omega (arith, few, step.0))
       sends few (Some o) (Err UnknownTicket) there step = absurd step
       sends few None a there step = absurd (true≢false (sym there))
-
-      go : (b : Bool) → b ≡ false → MatchBool b (DoesNothing s course notices t) ((ch : Freedom) × RunsBy says s terms ch course notices t × Unit {0}) → a ≡ Ok tt
-      go true off nothing = absurd (true≢false off)
-      go false on (ch, by, done) =
-          let few : length t.writes < queue_length = subst (λ (x : State K V X P W). length x.writes < queue_length) (sym by.1) (omega arith) in
-          sends few (get t.outstanding ticket) a waits step
 
 module _ {K V X L P W C I : Type 0} (m : Meaning K V X L P W C I) where
   -- such a call is one of the reference cache

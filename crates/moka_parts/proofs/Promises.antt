@@ -1,14 +1,11 @@
 -- A list of calls whose runs promise more is also one whose runs promise less; so what keeps all promises is a run of
 -- the reference cache.
 use Rattle.std.proofs.Common.{◌≡◌, ℕ, List, [], ◌∷◌, Some, inl, inr}
-use Rattle.moka_parts.specs.declared.records.Record.{Record}
-use Rattle.moka_parts.specs.declared.calls.Call.{Call}
-use Rattle.moka_parts.specs.declared.calls.Reply.{Reply}
-use Rattle.moka_parts.specs.Records.{Notice, record_of_key}
-use Rattle.moka_parts.specs.State.{State, Meaning, Events}
-use Rattle.moka_parts.specs.Maintenance.{Terms, Course, MaintenanceRun}
+use Rattle.moka_parts.proofs.Types.{Record, Call, Reply, Notice, State, Meaning, Events, Terms, Course, Step, Engine}
+use Rattle.moka_parts.specs.Records.{record_of_key}
+use Rattle.moka_parts.specs.Maintenance.{MaintenanceRun}
 use Rattle.moka_parts.specs.Calls.{after_hit}
-use Rattle.moka_parts.specs.Runs.{CallStep, Step, Engine, AreSteps, MakesCalls, PromisedRun}
+use Rattle.moka_parts.specs.Runs.{CallStep, AreSteps, MakesCalls, PromisedRun}
 use Rattle.moka_parts.specs.Laws.{IsOfReference}
 use Rattle.moka_parts.proofs.EachCall.{IsKept, each_call}
 use Rattle.moka_parts.proofs.RunsGoOn.{promised_is_run}

@@ -1,24 +1,18 @@
 -- What the registry's loops and searches find.
-use Rattle.std.proofs.Common.{◌≡◌, refl, ℕ, ◌<◌, Bool, true, false, List, [], ◌∷◌, ◌++◌, length, Result, Ok, Err, ap, sym, inl, inr, suc, zero, MatchBool, arith, true≢false, get_or, subst, Option, Some, None, MatchOption}
-use Rattle.std.specs.Prelude.{IsTrue, ◌↔◌}
+use Rattle.std.proofs.Common.{◌≡◌, refl, ℕ, ◌<◌, Bool, true, false, List, [], ◌∷◌, ◌++◌, length, Result, Ok, Err, ap, sym, inl, inr, suc, zero, MatchBool, arith, true≢false, get_or, subst, Option, Some, None, MatchOption, IsTrue, ◌↔◌}
 use Rattle.std.specs.List.{AllByRecursion, AllWithin, HoldsAt, All}
 use Rattle.std.proofs.lemmas.List.Elements.{All-from_all_within, All-head, All-tail, All-contains, Contains-get_or}
 use Rattle.uuid.specs.declared.Uuid.{Uuid}
-use Rattle.moka_parts.specs.declared.policy.Instant.{Instant}
-use Rattle.moka_parts.specs.declared.records.Record.{Record}
-use Rattle.moka_parts.specs.declared.records.Registered.{Registered}
-use Rattle.moka_parts.specs.declared.error.PredicateError.{PredicateError}
+use Rattle.moka_parts.proofs.Types.{Instant, Record, Registered, PredicateError, PredicateRefused, State}
 use Rattle.moka_parts.specs.declared.error.PredicateError.TheVariants as predicate_error
-use Rattle.moka_parts.specs.declared.error.PredicateRefused.{PredicateRefused}
 use Rattle.moka_parts.specs.Visibility.{Covers, SomeCovers, NoneCovers, FirstCovers}
-use Rattle.moka_parts.specs.State.{State}
 use Rattle.moka_parts.specs.Calls as calls
 use Rattle.moka_parts.specs.Registry.{IsTaken, FirstFree, RegistrationRefusal, RegistrationStep}
 
 -- ---- which records are covered
 
 module _ {K V P : Type 0} (says : P → K → V → Bool → Type 0) (r : Record K V) where
-  some_covers : (ps : List (Registered P)) (k : ℕ) → k < length ps → HoldsAt (λ p. Covers says p r) ps k → SomeCovers says ps r
+  pub some_covers : (ps : List (Registered P)) (k : ℕ) → k < length ps → HoldsAt (λ p. Covers says p r) ps k → SomeCovers says ps r
   some_covers [] k below covers = absurd (omega arith)
   some_covers (p ∷ ps) zero below covers = inl (covers p)
   some_covers (p ∷ ps) (suc k) below covers = inr (some_covers ps k (omega arith) covers)

@@ -1,12 +1,11 @@
 -- Lists of moments that never fall, some of them missing: what may be taken out or moved.
-use Rattle.std.proofs.Common.{◌≡◌, refl, ℕ, zero, suc, ◌<◌, ◌≤◌, Bool, true, false, cond, List, [], ◌∷◌, ◌++◌, map, filter, length, slice_index_or, Option, Some, None, ap, sym, subst, ◌⊎◌, inl, inr, arith}
-use Rattle.std.specs.Prelude.{filter_map, ⊤}
+use Rattle.std.proofs.Common.{◌≡◌, refl, ℕ, zero, suc, ◌<◌, ◌≤◌, Bool, true, false, cond, List, [], ◌∷◌, ◌++◌, map, filter, length, slice_index_or, Option, Some, None, ap, sym, subst, ◌⊎◌, inl, inr, arith, filter_map}
 use Rattle.std.specs.List.{AllByRecursion, cons_option}
 use Rattle.std.specs.List.Sorted.{IsNonDecreasing}
 
 -- the numbers never fall, and none is below the bound
 abbrev pub Climbs : ℕ → List ℕ → Type 0
-Climbs low [] = ⊤
+Climbs low [] = Unit {0}
 Climbs low (x ∷ xs) = (low ≤ x) × Climbs x xs
 
 all_above : (low : ℕ) (xs : List ℕ) → Climbs low xs → (j d : ℕ) → j < length xs → low ≤ slice_index_or xs j d
@@ -93,7 +92,7 @@ module _ {A : Type 0} where
 
 -- no later than the moment, if it is there
 abbrev pub IsUpTo : ℕ → Option ℕ → Type 0
-IsUpTo m None = ⊤
+IsUpTo m None = Unit {0}
 IsUpTo m (Some x) = x ≤ m
 
 -- a moment no earlier than all others goes to the back

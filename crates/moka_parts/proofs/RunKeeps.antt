@@ -1,36 +1,17 @@
 -- A run keeps every field of the records that stay, except the applied generation.
-use Rattle.std.proofs.Common.{◌≡◌, refl, ℕ, Bool, true, false, cond, List, [], ◌∷◌, Option, Some, None, ap, sym, ◌∙◌, subst, ◌⊎◌, inl, inr, ◌==◌, if◌then◌else◌}
-use Rattle.std.specs.Ordering.{nat_cmp, eq_by_cmp}
-use Rattle.std.specs.Cmp.{nat_cmp_total}
+use Rattle.std.proofs.Common.{◌≡◌, refl, ℕ, true, false, List, [], ◌∷◌, Option, Some, None, ap, sym, ◌∙◌, subst, inl, inr, ◌==◌, if◌then◌else◌, ◌++◌}
 use Rattle.std.specs.Option.{option_map_or}
-use Rattle.std.specs.FinMap.{get, remove, get-insert, get-remove, nat_cmp-IsAntisymmetric}
-use Rattle.std.proofs.lemmas.Option.{same_Some}
-use Rattle.moka_parts.specs.declared.policy.EvictionPolicy.{EvictionPolicy}
-use Rattle.moka_parts.specs.declared.records.Record.{Record}
-use Rattle.moka_parts.specs.declared.records.Member.{Member}
-use Rattle.moka_parts.specs.declared.records.Ticketed.{Ticketed}
-use Rattle.moka_parts.specs.declared.records.Operation.{Operation}
-use Rattle.moka_parts.specs.declared.records.Operation.TheVariants.{Upsert, Removal}
-use Rattle.moka_parts.specs.declared.records.ReadOperation.{ReadOperation}
-use Rattle.moka_parts.specs.declared.records.ReadOperation.TheVariants.{Hit, Miss}
-use Rattle.moka_parts.specs.Records.{Records}
-use Rattle.moka_parts.specs.State.{State, Contents, contents}
+use Rattle.std.specs.FinMap.{get, remove}
+use Rattle.moka_parts.proofs.Types.{EvictionPolicy, Record, Member, Ticketed, Operation, Upsert, Removal, ReadOperation, Hit, Miss, Records, State, Contents, Fate, Ignored, Overtaken, Counted, Admitted, TooHeavy, Preferred, Refused, Choice, Removes, MovesToBack, Drops, Freedom}
+use Rattle.moka_parts.specs.State.{contents}
 use Rattle.moka_parts.specs.Reads.{after_read, after_reads}
-use Rattle.moka_parts.specs.Writes.{Fate, Ignored, Overtaken, Counted, Admitted, TooHeavy, Preferred, Refused, fate, with_applied, without_records, rejected, after_fate, after_write, after_writes}
-use Rattle.moka_parts.specs.Maintenance.{Choice, Removes, MovesToBack, Drops, Freedom, after_choice, after_choices, at_end, before_steps, after_queued_reads}
-use Rattle.moka_parts.proofs.Maps.{is_Equal}
+use Rattle.moka_parts.specs.Writes.{fate, with_applied, without_records, rejected, after_fate, after_write, after_writes}
+use Rattle.moka_parts.specs.Maintenance.{after_choice, after_choices, at_end, before_steps, after_queued_reads}
+use Rattle.moka_parts.proofs.Maps.{found_inserted, found_removed}
 
 -- each new record is an old one but for the applied generation
 abbrev pub Keeps : {K V : Type 0} → Records K V → Records K V → Type 0
 Keeps {K} {V} old new = (n : ℕ) (q : Record K V) → get new n ≡ Some q → (r : Record K V) × (get old n ≡ Some r) × ((g : ℕ) × (q ≡ record r { applied = g }))
-
-found_in : {A : Type 0} (b : Bool) (v x : A) (o : Option A) → cond b (Some v) o ≡ Some x → ((b ≡ true) × (v ≡ x)) ⊎ (o ≡ Some x)
-found_in true v x o e = inl (refl, same_Some v x e)
-found_in false v x o e = inr e
-
-left_in : {A : Type 0} (b : Bool) (x : A) (o : Option A) → cond b None o ≡ Some x → o ≡ Some x
-left_in true x o e = cc
-left_in false x o e = e
 
 module _ {K V : Type 0} where
   pub keeps_itself : (old : Records K V) → Keeps old old
@@ -43,16 +24,13 @@ module _ {K V : Type 0} where
       (m.0, m.1, (l.2.0, l.2.1 ∙ ap (λ (x : Record K V). record x { applied = l.2.0 }) m.2.1))
 
   pub keeps_remove : (old : Records K V) (k : ℕ) → Keeps old (remove old k)
-  keeps_remove old k n q e = (q, left_in _ q _ (sym (get-remove nat_cmp_total old k n) ∙ e), (q.applied, refl))
+  keeps_remove old k n q e = (q, (found_removed old k n q e).1, (q.applied, refl))
 
   keeps_put : (old mid : Records K V) (n : ℕ) (r : Record K V) (g : ℕ) → get old n ≡ Some r → Keeps old mid → Keeps old (with_applied mid n r g)
-  keeps_put old mid n r g there h k q e =
-      elim (found_in (eq_by_cmp nat_cmp k n) (record r { applied = g }) q (get mid k) (sym (get-insert nat_cmp_total mid n (record r { applied = g }) k) ∙ e)) [
-        | inl p ↦
-            let same : k ≡ n = nat_cmp-IsAntisymmetric k n (is_Equal (nat_cmp k n) (p.0)) in
-            (r, rw same there, (g, sym (p.1)))
-        | inr p ↦ h k q p
-      ]
+  keeps_put old mid n r g there h k q e = elim (found_inserted mid n (record r { applied = g }) k q e) [
+    | inl (same, one) ↦ (r, ap (get old) same ∙ there, (g, sym one))
+    | inr (apart, before) ↦ h k q before
+  ]
 
   keeps_without : (old : Records K V) (gone : List Member) → Keeps old (without_records gone old)
   keeps_without old [] = keeps_itself old
@@ -105,6 +83,11 @@ module _ {K V : Type 0} where
   pub keeps_choices : (c : Contents K V) (xs : List Choice) → Keeps c.records (after_choices c xs).records
   keeps_choices c [] = keeps_itself c.records
   keeps_choices c (x ∷ xs) = keeps_on c.records _ _ (keeps_choice c x) (keeps_choices (after_choice c x) xs)
+
+  -- further steps keep what they leave
+  pub keeps_second : (c : Contents K V) (xs ys : List Choice) → Keeps (after_choices c xs).records (after_choices c (xs ++ ys)).records
+  keeps_second c [] ys = keeps_choices c ys
+  keeps_second c (x ∷ xs) ys = keeps_second (after_choice c x) xs ys
 
 -- whatever a run chooses
 pub run_keeps : {K V X P W : Type 0} (s : State K V X P W) (ch : Freedom) → Keeps s.records (at_end s ch).records

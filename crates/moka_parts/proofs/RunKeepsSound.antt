@@ -1,87 +1,74 @@
 -- A whole run keeps what always holds, whatever it chooses.
-use Rattle.std.proofs.Common.{◌≡◌, refl, ℕ, ◌<◌, ◌≤◌, Bool, true, false, ◌==◌, nat_lt, List, [], ◌∷◌, Option, Some, None, is_some, ◌∙◌, ltb→lt, arith, if◌then◌else◌}
-use Rattle.std.specs.Bool.{passes}
+use Rattle.std.proofs.Common.{◌≡◌, refl, ℕ, ◌<◌, ◌≤◌, Bool, true, false, ◌==◌, nat_lt, List, [], ◌∷◌, Option, Some, None, is_some, ◌∙◌, if◌then◌else◌}
 use Rattle.std.specs.Option.{option_map_or}
 use Rattle.std.specs.FinMap.{get}
-use Rattle.moka_parts.specs.declared.policy.EvictionPolicy.{EvictionPolicy}
-use Rattle.moka_parts.specs.declared.policy.EvictionPolicy.TheVariants.{TinyLfu, Lru}
-use Rattle.moka_parts.specs.declared.records.Record.{Record}
-use Rattle.moka_parts.specs.declared.records.Member.{Member}
-use Rattle.moka_parts.specs.declared.records.Ticketed.{Ticketed}
-use Rattle.moka_parts.specs.declared.records.Operation.{Operation}
-use Rattle.moka_parts.specs.declared.records.Operation.TheVariants.{Upsert, Removal}
-use Rattle.moka_parts.specs.declared.records.ReadOperation.{ReadOperation}
-use Rattle.moka_parts.specs.declared.records.ReadOperation.TheVariants.{Hit, Miss}
-use Rattle.moka_parts.specs.Records.{Operations, is_member, counted_of, without_members, to_back, all_to_back, total_weight, has_room}
-use Rattle.moka_parts.specs.State.{State, Contents, contents}
+use Rattle.moka_parts.proofs.Types.{EvictionPolicy, TinyLfu, Lru, Record, Member, Ticketed, Operation, Upsert, Removal, ReadOperation, Hit, Miss, Operations, State, Contents, Fate, Ignored, Overtaken, Counted, Admitted, TooHeavy, Preferred, Refused, Choice, Removes, MovesToBack, Drops, Freedom}
+use Rattle.moka_parts.specs.Records.{is_member, counted_of, without_members, to_back, all_to_back, total_weight, has_room, without_member}
+use Rattle.moka_parts.specs.State.{contents}
 use Rattle.moka_parts.specs.Reads.{after_read, after_reads}
 use Rattle.moka_parts.specs.Candidates.{victims_for, is_preferred}
-use Rattle.moka_parts.specs.Writes.{Fate, Ignored, Overtaken, Counted, Admitted, TooHeavy, Preferred, Refused, without_records, fate_by_frequency, fate_by_policy, fate_of_newcomer, fate_of_record, after_fate, after_write, after_writes}
-use Rattle.moka_parts.specs.Maintenance.{Choice, Removes, MovesToBack, Drops, Freedom, after_choice, after_choices, after_queued_reads, before_steps, after_run}
+use Rattle.moka_parts.specs.Writes.{without_records, fate_by_frequency, fate_by_policy, fate_of_newcomer, fate_of_record, after_fate, after_write, after_writes}
+use Rattle.moka_parts.specs.Maintenance.{after_choice, after_choices, after_queued_reads, before_steps, after_run}
 use Rattle.moka_parts.specs.Settling.{IsConsistent, IsConsistentState, IsWaitingIn}
-use Rattle.moka_parts.proofs.AccessList.{counted-all_to_back, uncounted_without}
+use Rattle.moka_parts.proofs.AccessList.{counted-all_to_back, uncounted_without, counted_taken_out, counted_past_taken_out, distinct_taken_out}
 use Rattle.moka_parts.proofs.Options.{none_by_test}
 use Rattle.moka_parts.proofs.Waiting.{TakesIn, takes_front}
 use Rattle.moka_parts.proofs.Consistent.{leave_kept, back_kept, all_back_kept, victims_kept}
-use Rattle.moka_parts.proofs.Applied.{removal_kept, late_kept, overtaken_kept, counted_kept, entered_kept, rejected_kept}
+use Rattle.moka_parts.proofs.Applied.{removal_kept, late_kept, overtaken_kept, entered_kept, rejected_kept}
+use Rattle.std.proofs.lemmas.Bool.{ltb-true, ltb-false}
 
--- what is known of an upsert with this fate: it is newer than what was applied or not, and its number is counted or not
-abbrev pub Known : Fate → ℕ → ℕ → Option ℕ → Type 0
-Known Ignored applied generation counted = generation ≤ applied
-Known Overtaken applied generation counted = generation ≤ applied
-Known Counted applied generation counted = applied < generation
-Known Admitted applied generation counted = (applied < generation) × (counted ≡ None)
-Known TooHeavy applied generation counted = (applied < generation) × (counted ≡ None)
-Known (Preferred victims) applied generation counted = (applied < generation) × (counted ≡ None)
-Known Refused applied generation counted = (applied < generation) × (counted ≡ None)
+-- what is known of an upsert of the record that has this fate: it is newer than what was applied or not, its number is
+-- counted or not, and which victims make room for it
+abbrev pub Known : {K V : Type 0} → Contents K V → (number generation weight : ℕ) → Record K V → Fate → Type 0
+Known c number generation weight r Ignored = generation ≤ r.applied
+Known c number generation weight r Overtaken = generation ≤ r.applied
+Known c number generation weight r Counted = (r.applied < generation) × (is_member number c.access ≡ true)
+Known c number generation weight r Admitted = (r.applied < generation) × (counted_of number c.access ≡ None)
+Known c number generation weight r TooHeavy = (r.applied < generation) × (counted_of number c.access ≡ None)
+Known c number generation weight r (Preferred victims) = (r.applied < generation) × (counted_of number c.access ≡ None) × (victims_for c weight ≡ Some victims)
+Known c number generation weight r Refused = (r.applied < generation) × (counted_of number c.access ≡ None)
 
-not_newer : (a b : ℕ) → nat_lt a b ≡ false → b ≤ a
-not_newer a b e = grind arith
-
-module _ {K V : Type 0} (capacity : Option ℕ) (policy : EvictionPolicy) (c : Contents K V) (weight hash : ℕ) where
-  newcomer_known : (applied generation : ℕ) (counted : Option ℕ) → (applied < generation) × (counted ≡ None) → Known (fate_of_newcomer capacity policy c weight hash) applied generation counted
-  newcomer_known applied generation counted p =
-      elim (has_room capacity (total_weight c.access) weight) as (λ b. Known (if b then Admitted else (if has_room capacity 0 weight then fate_by_policy policy c weight hash else TooHeavy)) applied generation counted) [
+module _ {K V : Type 0} (capacity : Option ℕ) (policy : EvictionPolicy) (c : Contents K V) (number generation weight hash : ℕ) (r : Record K V) where
+  newcomer_known : (r.applied < generation) × (counted_of number c.access ≡ None) → Known c number generation weight r (fate_of_newcomer capacity policy c weight hash)
+  newcomer_known p =
+      elim (has_room capacity (total_weight c.access) weight) as (λ b. Known c number generation weight r (if b then Admitted else (if has_room capacity 0 weight then fate_by_policy policy c weight hash else TooHeavy))) [
         | true ↦ p
-        | false ↦ elim (has_room capacity 0 weight) as (λ b. Known (if b then fate_by_policy policy c weight hash else TooHeavy) applied generation counted) [
-          | true ↦ by_policy policy
-          | false ↦ p
-        ]
+        | false ↦ elim (has_room capacity 0 weight) as (λ b. Known c number generation weight r (if b then fate_by_policy policy c weight hash else TooHeavy)) [ true ↦ by_policy policy | false ↦ p ]
       ]
     where
-      by_choice : (o : Option (List Member)) → Known (fate_by_frequency c hash o) applied generation counted
-      by_choice None = p
-      by_choice (Some victims) = elim (is_preferred c hash victims) as (λ b. Known (if b then Preferred victims else Refused) applied generation counted) [ true ↦ p | false ↦ p ]
+      by_choice : (o : Option (List Member)) → victims_for c weight ≡ o → Known c number generation weight r (fate_by_frequency c hash o)
+      by_choice None found = p
+      by_choice (Some victims) found = elim (is_preferred c hash victims) as (λ b. Known c number generation weight r (if b then Preferred victims else Refused)) [ true ↦ (p.0, p.1, found) | false ↦ p ]
 
-      by_policy : (policy : EvictionPolicy) → Known (fate_by_policy policy c weight hash) applied generation counted
+      by_policy : (policy : EvictionPolicy) → Known c number generation weight r (fate_by_policy policy c weight hash)
       by_policy Lru = p
-      by_policy TinyLfu = by_choice (victims_for c weight)
+      by_policy TinyLfu = by_choice (victims_for c weight) refl
 
   -- the fate of an upsert of a record in the map
-  pub fate_known : (number generation : ℕ) (r : Record K V) → Known (fate_of_record capacity policy c number generation weight hash r) r.applied generation (counted_of number c.access)
-  fate_known number generation r = newer (nat_lt r.applied generation) refl (is_member number c.access) refl
+  pub fate_known : Known c number generation weight r (fate_of_record capacity policy c number generation weight hash r)
+  fate_known = go (nat_lt r.applied generation) refl (is_member number c.access) refl
     where
-      newer : (b : Bool) → nat_lt r.applied generation ≡ b → (m : Bool) → is_member number c.access ≡ m →
-          Known (if b then (if m then Counted else fate_of_newcomer capacity policy c weight hash) else (if m then Overtaken else Ignored)) r.applied generation (counted_of number c.access)
-      newer true e true f = ltb→lt _ _ (passes _ e)
-      newer true e false f = newcomer_known r.applied generation (counted_of number c.access) (ltb→lt _ _ (passes _ e), none_by_test (counted_of number c.access) f)
-      newer false e true f = not_newer r.applied generation e
-      newer false e false f = not_newer r.applied generation e
+      go : (b : Bool) → nat_lt r.applied generation ≡ b → (m : Bool) → is_member number c.access ≡ m → Known c number generation weight r (if b then (if m then Counted else fate_of_newcomer capacity policy c weight hash) else (if m then Overtaken else Ignored))
+      go true newer true there = (ltb-true _ _ newer, there)
+      go true newer false out = newcomer_known (ltb-true _ _ newer, none_by_test (counted_of number c.access) out)
+      go false newer true there = ltb-false _ _ newer
+      go false newer false out = ltb-false _ _ newer
 
 module _ {K V : Type 0} (Before After : Operation → Type 0) (c : Contents K V) (h : IsConsistent Before c.records c.access) where
   -- whatever fate an upsert has
-  pub fate_kept : (number generation weight hash : ℕ) (moved : List ℕ) (r : Record K V) (f : Fate) → get c.records number ≡ Some r → Known f r.applied generation (counted_of number c.access) →
+  pub fate_kept : (number generation weight hash : ℕ) (moved : List ℕ) (r : Record K V) (f : Fate) → get c.records number ≡ Some r → Known c number generation weight r f →
       TakesIn Before After (Upsert number generation weight hash) → IsConsistent After (after_fate c number generation weight moved r f).records (after_fate c number generation weight moved r f).access
   fate_kept number generation weight hash moved r Ignored there known taken = overtaken_kept Before After c.records c.access h number generation weight hash r there known taken
   fate_kept number generation weight hash moved r Overtaken there known taken = back_kept After c.records c.access (overtaken_kept Before After c.records c.access h number generation weight hash r there known taken) number
   fate_kept number generation weight hash moved r Counted there known taken =
-      counted_kept Before After c.records c.access h number generation weight hash r there known taken
-  fate_kept number generation weight hash moved r Admitted there known taken = entered_kept Before After c.records c.access h number generation weight hash r c.records c.access there known.0 h known.1 taken
+      entered_kept Before After c.records c.access h number generation weight hash r c.records (without_member number c.access) there known.0
+      (λ k apart. rw (counted_past_taken_out number k c.access apart) (h.sound k)) (distinct_taken_out number c.access h.once) (counted_taken_out number c.access) taken
+  fate_kept number generation weight hash moved r Admitted there known taken = entered_kept Before After c.records c.access h number generation weight hash r c.records c.access there known.0 (λ k apart. h.sound k) h.once known.1 taken
   fate_kept number generation weight hash moved r TooHeavy there known taken = rejected_kept Before After c.records c.access h number generation weight hash r c.access there known.0 h known.1 taken (r.generation == generation) refl
   fate_kept number generation weight hash moved r (Preferred victims) there known taken =
+      let left = victims_kept Before victims c.records (all_to_back moved c.access) (all_back_kept Before c.records c.access h moved) in
       entered_kept Before After c.records c.access h number generation weight hash r (without_records victims c.records) (without_members victims (all_to_back moved c.access)) there known.0
-      (victims_kept Before victims c.records (all_to_back moved c.access) (all_back_kept Before c.records c.access h moved))
-      (uncounted_without victims number (all_to_back moved c.access) (counted-all_to_back moved number c.access ∙ known.1)) taken
+      (λ k apart. left.sound k) left.once (uncounted_without victims number (all_to_back moved c.access) (counted-all_to_back moved number c.access ∙ known.1)) taken
   fate_kept number generation weight hash moved r Refused there known taken =
       rejected_kept Before After c.records c.access h number generation weight hash r (all_to_back moved c.access) there known.0 (all_back_kept Before c.records c.access h moved) (counted-all_to_back moved number c.access ∙ known.1) taken (r.generation == generation) refl
 
@@ -95,7 +82,7 @@ module _ {K V : Type 0} (capacity : Option ℕ) (policy : EvictionPolicy) where
           IsConsistent After (option_map_or (λ r. after_fate c number generation weight moved r (option_map_or (fate_of_record capacity policy c number generation weight hash) o Ignored)) o c).records
           (option_map_or (λ r. after_fate c number generation weight moved r (option_map_or (fate_of_record capacity policy c number generation weight hash) o Ignored)) o c).access
       found None there = late_kept Before After c.records c.access h number generation weight hash there taken
-      found (Some r) there = fate_kept Before After c h number generation weight hash moved r (fate_of_record capacity policy c number generation weight hash r) there (fate_known capacity policy c weight hash number generation r) taken
+      found (Some r) there = fate_kept Before After c h number generation weight hash moved r (fate_of_record capacity policy c number generation weight hash r) there (fate_known capacity policy c number generation weight hash r) taken
 
   -- all queued writes: afterwards only what was not sent waits
   pub writes_kept : (outstanding : Operations) (c : Contents K V) (hs : List Ticketed) (ms : List (List ℕ)) → IsConsistent (IsWaitingIn outstanding hs) c.records c.access → IsConsistent (IsWaitingIn outstanding []) (after_writes capacity policy c hs ms).records (after_writes capacity policy c hs ms).access

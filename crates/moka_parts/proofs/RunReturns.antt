@@ -1,18 +1,16 @@
 -- A run with all that is promised of it, as a call of a cache; and one of a disabled cache.
-use Rattle.std.proofs.Common.{◌≡◌, refl, ℕ, Bool, true, false, true≢false, ◌&&◌, List, [], inl, Option, Some, None, ap, sym, subst, ◌∙◌, arith}
+use Rattle.std.proofs.Common.{◌≡◌, refl, ℕ, Bool, true, false, true≢false, ◌&&◌, List, [], inl, Option, Some, None, ap, sym, ◌∙◌, arith}
 use Rattle.std.specs.List.{list_any}
 use Rattle.std.specs.FinMap.{get, len}
-use Rattle.moka_parts.specs.declared.notification.RemovalCause.{RemovalCause}
-use Rattle.moka_parts.specs.declared.policy.Instant.{Instant}
-use Rattle.moka_parts.specs.declared.records.Record.{Record}
-use Rattle.moka_parts.specs.Records.{Notice, is_settled}
-use Rattle.moka_parts.specs.State.{State, Events, is_disabled}
+use Rattle.moka_parts.proofs.Types.{RemovalCause, Instant, Record, Notice, State, Events, Terms, Course, Engine}
+use Rattle.moka_parts.specs.Records.{is_settled}
+use Rattle.moka_parts.specs.State.{is_disabled}
 use Rattle.moka_parts.specs.Surroundings.{Leads, Heard}
-use Rattle.moka_parts.specs.Maintenance.{Terms, Course, is_late}
+use Rattle.moka_parts.specs.Maintenance.{is_late}
 use Rattle.moka_parts.specs.Exact.{IsWithin}
 use Rattle.moka_parts.specs.Settling.{IsBare, LeavesBehind, Settles}
 use Rattle.moka_parts.specs.Calls.{run_events, RunStep}
-use Rattle.moka_parts.specs.Runs.{Engine, Befalls}
+use Rattle.moka_parts.specs.Runs.{Befalls}
 use Rattle.moka_parts.specs.Listed.{ListedRun}
 use Rattle.moka_parts.proofs.AtEnd.{bare_is_exact}
 use Rattle.moka_parts.proofs.Maps.{nothing_at}
@@ -32,13 +30,12 @@ pub run_returns : {K V S X L P W C : Type 0} {says : P → K → V → Bool → 
     IsPromised says read tells reads old.write_list write_list old.state terms answer passes t old.listener m clock clock_after → new ≡ record old { state = t; listener = m; write_list = write_list; passes = passes; room = room } →
     (e : Events K V) × RunStep (ListedRun says read now.write_list new.write_list) now.state terms answer e new.state × Befalls tells e now new × Leads reads clock e.readings clock_after
 run_returns {K} {V} {S} {X} {L} {P} {W} {C} {says} {read} {tells} {reads} {old} {now} {new} is {terms} {answer} {passes} {t} {m} {clock} {clock_after} write_list room h ends =
-    subst (λ now. (e : Events K V) × RunStep (ListedRun says read now.write_list new.write_list) now.state terms answer e new.state × Befalls tells e now new × Leads reads clock e.readings clock_after) is
-    (subst (λ new. (e : Events K V) × RunStep (ListedRun says read old.write_list new.write_list) old.state terms answer e new.state × Befalls tells e old new × Leads reads clock e.readings clock_after) (sym ends) (
+    rw (← is, ends) (
       run_events h.notices (record { answer = answer; readings = h.readings; passes = passes }),
       (record { answer = answer; readings = h.readings; passes = passes }, h.run, refl, refl),
       record { kept = refl; heard = h.heard; passes = refl; listed = λ none. cc },
       h.led,
-    ))
+    )
 
 -- ---- a disabled cache
 

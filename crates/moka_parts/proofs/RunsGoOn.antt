@@ -1,15 +1,13 @@
 -- A run of the reference cache goes on by one call.
-use Rattle.std.proofs.Common.{ℕ, Bool, MatchBool, true, false, ◌≡◌, refl, List, [], ◌∷◌, ◌++◌, Option, Some, None, ap, sym, ◌∙◌, append_assoc, append-nil, flat_map}
+use Rattle.std.proofs.Common.{ℕ, Bool, MatchBool, true, false, ◌≡◌, refl, List, [], ◌∷◌, ◌++◌, Option, Some, None, ap, sym, ◌∙◌, append-nil, flat_map}
 use Rattle.std.proofs.lemmas.List.{map_push}
-use Rattle.moka_parts.specs.declared.calls.Call.{Call}
-use Rattle.moka_parts.specs.declared.calls.Reply.{Reply}
-use Rattle.moka_parts.specs.declared.notification.RemovalCause.{RemovalCause}
-use Rattle.moka_parts.specs.Records.{Notice}
-use Rattle.moka_parts.specs.State.{State, Meaning, is_disabled}
-use Rattle.moka_parts.specs.Maintenance.{Terms, Course, Freedom, RunsBy, DoesNothing, MaintenanceRun}
+use Rattle.moka_parts.proofs.Types.{Call, Reply, RemovalCause, Notice, State, Meaning, Terms, Course, Freedom, Engine, Step}
+use Rattle.moka_parts.specs.State.{is_disabled}
+use Rattle.moka_parts.specs.Maintenance.{RunsBy, DoesNothing, MaintenanceRun}
 use Rattle.moka_parts.specs.Bounds.{IsBounded}
 use Rattle.moka_parts.specs.Surroundings.{Leads, NoticeStep, Heard}
-use Rattle.moka_parts.specs.Runs.{PromisedRun, Engine, Befalls, Step, CallStep, AreSteps, MakesCalls, passes_after, last_passes, last_state, notices_of, readings_of, ids_of}
+use Rattle.moka_parts.specs.Runs.{PromisedRun, Befalls, CallStep, AreSteps, MakesCalls, passes_after, last_passes, last_state, notices_of, readings_of, ids_of}
+use Rattle.std.proofs.lemmas.Grind.{flat_map-append}
 
 -- steps after steps
 pub Leads-append : {S A : Type 0} (step : S → A → S → Type 0) (a b c : S) (xs ys : List A) → Leads step a xs b → Leads step b ys c → Leads step a (xs ++ ys) c
@@ -26,8 +24,7 @@ Heard-append tells (Some a) None c xs ys h k = absurd h
 Heard-append tells (Some a) (Some b) None xs ys h k = absurd k
 
 flat_map_push : {A B : Type 0} (f : A → List B) (xs : List A) (x : A) → flat_map f (xs ++ x ∷ []) ≡ flat_map f xs ++ f x
-flat_map_push f [] x = append-nil (f x)
-flat_map_push f (y ∷ xs) x = ap (λ zs. f y ++ zs) (flat_map_push f xs x) ∙ sym (append_assoc (f y) (flat_map f xs) (f x))
+flat_map_push f xs x = flat_map-append f xs (x ∷ []) ∙ ap (λ zs. flat_map f xs ++ zs) (append-nil (f x))
 
 module _ {K V X P W : Type 0} where
   last_state_push : (s : State K V X P W) (xs : List (Step K V X P W)) (x : Step K V X P W) → last_state s (xs ++ x ∷ []) ≡ x.after

@@ -1,15 +1,13 @@
 -- A scan of the predicates, stretch by stretch: over a list `before ++ stretch ++ after` it says what stands in the
 -- stretch, a whole round is `before ++ stretch`, and what leaves the map in between takes nothing back.
-use Rattle.std.proofs.Common.{◌≡◌, ℕ, Bool, true, false, ◌==◌, List, [], ◌∷◌, ◌++◌, Some, ap, sym, ◌∙◌, ◌⊎◌, ⊎_elim, true≢false}
-use Rattle.std.specs.Prelude.{Contains}
+use Rattle.std.proofs.Common.{◌≡◌, ℕ, Bool, true, false, ◌==◌, List, [], ◌∷◌, ◌++◌, Some, ap, sym, ◌∙◌, ◌⊎◌, ⊎_elim, true≢false, Contains}
 use Rattle.std.specs.FinMap.{get}
 use Rattle.std.specs.List.{All}
 use Rattle.std.proofs.lemmas.Bool.{or_cases}
 use Rattle.std.proofs.lemmas.List.Elements.{All-nil, All-cons, All-contains}
 use Rattle.std.proofs.lemmas.List.Folds.{list_any-append}
-use Rattle.moka_parts.specs.declared.records.Record.{Record}
-use Rattle.moka_parts.specs.declared.records.Registered.{Registered}
-use Rattle.moka_parts.specs.Records.{Records, is_applied, is_listed}
+use Rattle.moka_parts.proofs.Types.{Record, Registered, Records}
+use Rattle.moka_parts.specs.Records.{is_applied, is_listed}
 use Rattle.moka_parts.specs.Visibility.{Covers, NoneCovers}
 use Rattle.moka_parts.specs.Scan.{AreUncovered}
 use Rattle.moka_parts.proofs.Maps.{same_by_test}

@@ -1,18 +1,12 @@
 -- A first script as a chain of call steps: insert, send, run, get.
-use Rattle.std.proofs.Common.{◌≡◌, refl, ℕ, false, ◌==◌, [], ◌∷◌, Some, None, Ok, ap, sym, ◌∙◌, lit<}
-use Rattle.std.specs.Ordering.{nat_cmp}
+use Rattle.std.proofs.Common.{◌≡◌, refl, ℕ, false, ◌==◌, [], ◌∷◌, Some, None, Ok, ap, sym, ◌∙◌, lit<, nat_cmp}
 use Rattle.std.specs.Cmp.{nat_cmp_total}
 use Rattle.std.specs.FinMap.{insert, remove, empty, get-insert, entries, entries-insert, len-entries, put}
-use Rattle.moka_parts.specs.declared.policy.EvictionPolicy.TheVariants.{TinyLfu}
-use Rattle.moka_parts.specs.declared.policy.Instant.{Instant}
-use Rattle.moka_parts.specs.declared.records.Record.{Record}
-use Rattle.moka_parts.specs.declared.records.Operation.{Operation}
-use Rattle.moka_parts.specs.declared.records.Operation.TheVariants.{Upsert}
-use Rattle.moka_parts.specs.declared.records.ReadOperation.TheVariants.{Hit}
+use Rattle.moka_parts.proofs.Types.{TinyLfu, Instant, Record, Operation, Upsert, Hit, State, Settings, Meaning, Freedom, Course}
 use Rattle.moka_parts.specs.declared.calls.Call.TheVariants as call
 use Rattle.moka_parts.specs.declared.calls.Reply.TheVariants as reply
-use Rattle.moka_parts.specs.State.{new_state, State, Settings, Meaning}
-use Rattle.moka_parts.specs.Maintenance.{Freedom, Course, MaintenanceRun, after_run}
+use Rattle.moka_parts.specs.State.{new_state}
+use Rattle.moka_parts.specs.Maintenance.{MaintenanceRun, after_run}
 use Rattle.moka_parts.specs.Calls.{no_events, run_events, are_numbers_used_up, after_hit}
 use Rattle.moka_parts.proofs.Maps.{entries-empty}
 use Rattle.moka_parts.specs.Runs.{CallStep, AreSteps}

@@ -1,20 +1,15 @@
 -- A key that is hidden stays so until it is inserted again.
-use Rattle.std.proofs.Common.{◌≡◌, refl, ℕ, ◌<◌, ◌≤◌, Bool, true, false, ◌||◌, List, [], ◌∷◌, ◌++◌, Option, Some, None, ap, sym, ◌∙◌, subst, inl, inr, arith, true≢false}
-use Rattle.std.specs.Prelude.{Contains}
+use Rattle.std.proofs.Common.{◌≡◌, refl, ℕ, ◌≤◌, Bool, true, false, ◌||◌, List, [], ◌∷◌, ◌++◌, Option, Some, None, ap, sym, ◌∙◌, subst, inl, inr, arith, true≢false, Contains}
 use Rattle.std.specs.Cmp.{IsEquivalence}
-use Rattle.std.proofs.lemmas.List.Elements.{Contains-append_left, Contains-append_right, Contains-append_cases, Contains-push, Contains-push_cases}
-use Rattle.std.specs.FinMap.{get, insert, remove}
-use Rattle.moka_parts.specs.declared.policy.Instant.{Instant}
-use Rattle.moka_parts.specs.declared.records.Record.{Record}
-use Rattle.moka_parts.specs.declared.records.Registered.{Registered}
-use Rattle.moka_parts.specs.declared.calls.Call.{Call}
+use Rattle.std.proofs.lemmas.List.Elements.{Contains-append_left, Contains-append_right, Contains-push, at_from_Contains}
+use Rattle.std.specs.FinMap.{get, insert}
+use Rattle.moka_parts.proofs.Types.{Instant, Record, Registered, Call, Reply, Step, Notice, State, Settings, Meaning, Events, Terms, Course, Freedom}
 use Rattle.moka_parts.specs.declared.calls.Call.TheVariants as call
-use Rattle.moka_parts.specs.declared.calls.Reply.{Reply}
 use Rattle.moka_parts.specs.Settling.{IsWellNumbered, IsValid}
 use Rattle.moka_parts.specs.Calls.{new_record, updated_record, hit_record, ContainsStep}
-use Rattle.moka_parts.specs.Runs.{CallStep, Step, AreSteps, last_state}
+use Rattle.moka_parts.specs.Runs.{CallStep, AreSteps, last_state}
 use Rattle.moka_parts.specs.Laws.{moment_in, later_of, IsNoEarlier, is_insert_of, NeverLowers, NeverGoesBack, InsertsNever, last_moment, StaysHidden}
-use Rattle.moka_parts.proofs.Maps.{same_or_apart, get_inserted, get_past_insert, get_removed, get_past_remove}
+use Rattle.moka_parts.proofs.Maps.{found_inserted, found_removed}
 use Rattle.moka_parts.proofs.Lookup.{record_of_key_found, absent_key, present_key}
 use Rattle.moka_parts.proofs.Contained.{not_both}
 use Rattle.moka_parts.proofs.CallsKeep.{record_at_its_number}
@@ -22,12 +17,13 @@ use Rattle.moka_parts.proofs.Kept.{kept_by_run}
 use Rattle.moka_parts.proofs.EachCall.{IsKept, kept_by_call}
 use Rattle.moka_parts.proofs.StepsKeep.{call_keeps}
 use Rattle.moka_parts.specs.Time.{has_passed, is_before, deadline, moment_of}
-use Rattle.moka_parts.specs.Records.{Notice, record_of_key}
-use Rattle.moka_parts.specs.State.{State, Settings, Meaning, Events}
-use Rattle.moka_parts.specs.Visibility.{is_expired, is_past_live, is_past_idle, is_written_before, is_read_before, has_lapsed, Covers, SomeCovers, IsVisible, IsHidden, IsShown}
-use Rattle.moka_parts.specs.Maintenance.{predicates_at_end, Terms, Course, Freedom, MaintenanceRun, AreFree, after_run, at_end}
+use Rattle.moka_parts.specs.Records.{record_of_key}
+use Rattle.moka_parts.specs.Visibility.{is_expired, is_past_live, is_past_idle, has_lapsed, Covers, SomeCovers, IsVisible, IsHidden, IsShown}
+use Rattle.moka_parts.specs.Maintenance.{predicates_at_end, MaintenanceRun, AreFree, after_run, at_end}
 use Rattle.moka_parts.proofs.RunKeeps.{run_keeps}
 use Rattle.moka_parts.proofs.Dropped.{covering_stays}
+use Rattle.std.proofs.lemmas.Bool.{or_cases, or_left, or_right}
+use Rattle.moka_parts.proofs.Registry.{some_covers}
 
 -- ---- tests that stay true
 
@@ -35,10 +31,8 @@ passed_later : (o : Option ℕ) (t u : ℕ) → t ≤ u → has_passed o t ≡ t
 passed_later None t u le e = cc
 passed_later (Some d) t u le e = grind arith
 
-or_weaker : (a b c d : Bool) → (a ≡ true → c ≡ true) → (b ≡ true → d ≡ true) → (a || b) ≡ true → (c || d) ≡ true
-or_weaker true b c d f g e = ap (λ x. x || d) (f refl)
-or_weaker false b true d f g e = refl
-or_weaker false b false d f g e = g e
+or_weaker : {a b c d : Bool} → (a ≡ true → c ≡ true) → (b ≡ true → d ≡ true) → (a || b) ≡ true → (c || d) ≡ true
+or_weaker {a} {b} {c} {d} f g e = elim (or_cases a b e) [ inl x ↦ or_left c d (f x) | inr y ↦ or_right c d (g y) ]
 
 before_raised : (bound : Option ℕ) (now x : ℕ) → is_before now bound ≡ false → is_before x bound ≡ true → is_before x (Some now) ≡ true
 before_raised None now x low e = cc
@@ -46,20 +40,15 @@ before_raised (Some b) now x low e = grind arith
 
 module _ {K V X W : Type 0} where
   lapsed_later : (settings : Settings X W) (bound : Option Instant) (r : Record K V) (t u : ℕ) → t ≤ u → has_lapsed settings bound r t ≡ true → has_lapsed settings bound r u ≡ true
-  lapsed_later settings bound r t u le e =
+  lapsed_later settings bound r t u le =
       let own : is_expired r t ≡ true → is_expired r u ≡ true = passed_later (moment_of r.expires) t u le in
       let live : is_past_live settings r t ≡ true → is_past_live settings r u ≡ true = passed_later (deadline settings.time_to_live r.written.0) t u le in
       let idle : is_past_idle settings r t ≡ true → is_past_idle settings r u ≡ true = passed_later (deadline settings.time_to_idle r.read.0) t u le in
-      or_weaker (is_expired r t || is_past_live settings r t || is_past_idle settings r t || is_written_before bound r) (is_read_before bound r) (is_expired r u || is_past_live settings r u || is_past_idle settings r u || is_written_before bound r) (is_read_before bound r)
-      (or_weaker (is_expired r t || is_past_live settings r t || is_past_idle settings r t) (is_written_before bound r) (is_expired r u || is_past_live settings r u || is_past_idle settings r u) (is_written_before bound r)
-      (or_weaker (is_expired r t || is_past_live settings r t) (is_past_idle settings r t) (is_expired r u || is_past_live settings r u) (is_past_idle settings r u)
-      (or_weaker (is_expired r t) (is_past_live settings r t) (is_expired r u) (is_past_live settings r u) own live) idle) (λ e. e)) (λ e. e) e
+      or_weaker (or_weaker (or_weaker (or_weaker own live) idle) (λ e. e)) (λ e. e)
 
   lapsed_raised : (settings : Settings X W) (bound : Option Instant) (raised : Instant) (r : Record K V) (t : ℕ) → is_before raised.0 (moment_of bound) ≡ false → has_lapsed settings bound r t ≡ true → has_lapsed settings (Some raised) r t ≡ true
-  lapsed_raised settings bound raised r t low e =
-      or_weaker (is_expired r t || is_past_live settings r t || is_past_idle settings r t || is_written_before bound r) (is_read_before bound r) (is_expired r t || is_past_live settings r t || is_past_idle settings r t || is_written_before (Some raised) r) (is_read_before (Some raised) r)
-      (or_weaker (is_expired r t || is_past_live settings r t || is_past_idle settings r t) (is_written_before bound r) (is_expired r t || is_past_live settings r t || is_past_idle settings r t) (is_written_before (Some raised) r)
-      (λ e. e) (before_raised (moment_of bound) raised.0 r.written.0 low)) (before_raised (moment_of bound) raised.0 r.read.0 low) e
+  lapsed_raised settings bound raised r t low =
+      or_weaker (or_weaker (λ e. e) (before_raised (moment_of bound) raised.0 r.written.0 low)) (before_raised (moment_of bound) raised.0 r.read.0 low)
 
 module _ {K V P : Type 0} (says : P → K → V → Bool → Type 0) where
   covers_more : (ps : List (Registered P)) (p : Registered P) (r : Record K V) → SomeCovers says ps r → SomeCovers says (ps ++ p ∷ []) r
@@ -73,11 +62,9 @@ module _ {K V P : Type 0} (says : P → K → V → Bool → Type 0) where
   one_covers (q ∷ ps) r (inr h) = let x = one_covers ps r h in (x.0, Contains-append_right (q ∷ []) ps x.0 x.1, x.2)
 
   some_cover : (ps : List (Registered P)) (p : Registered P) (r : Record K V) → Contains ps p → Covers says p r → SomeCovers says ps r
-  some_cover [] p r c covers = let below : c.0 < 0 = c.1 in absurd (omega arith)
-  some_cover (q ∷ ps) p r c covers = elim (Contains-append_cases (q ∷ []) ps p c) [
-    | inl only ↦ elim (Contains-push_cases [] q p only) [ inl none ↦ let below : none.0 < 0 = none.1 in absurd (omega arith) | inr e ↦ inl (subst (λ x. Covers says x r) (sym e) covers) ]
-    | inr c ↦ inr (some_cover ps p r c covers)
-  ]
+  some_cover ps p r there covers =
+      let at = at_from_Contains ps p there in
+      some_covers says r ps at.0 at.1 (λ d. subst (λ x. Covers says x r) (sym (at.2 d)) covers)
 
 -- every record with the key is hidden
 abbrev pub IsKeyHidden : {K V X P W : Type 0} → (K → K → Bool) → (P → K → V → Bool → Type 0) → State K V X P W → K → ℕ → Type 0
@@ -104,20 +91,14 @@ module _ {K V X P W : Type 0} (eq : K → K → Bool) (says : P → K → V → 
           let now_covers : Covers says one.0 q = subst (λ (x : Record K V). Covers says one.0 x) (sym look) one.2 in
           inr (some_cover says (predicates_at_end s ch) one.0 q (covering_stays says s now ch free one.0 n q one.1 there now_covers) now_covers)
 
--- ---- calls
-
-module _ {K V X P W : Type 0} (eq : K → K → Bool) (says : P → K → V → Bool → Type 0) (key : K) where
   run_hides : (s t : State K V X P W) (terms : Terms) (course : Course) (notices : List (Notice K V)) (u : ℕ) → IsKeyHidden eq says s key u → MaintenanceRun says s terms course notices t → IsKeyHidden eq says t key u
-  run_hides s t terms course notices u h run = kept_by_run (λ x. IsKeyHidden eq says x key u) s t h _ says terms course notices (λ ch on free. hidden_run eq says key s terms.now ch u free h) run.0
+  run_hides s t terms course notices u h run = kept_by_run (λ x. IsKeyHidden eq says x key u) s t h _ says terms course notices (λ ch on free. hidden_run s terms.now ch u free h) run.0
 
   -- a record in place of another that is not of the hidden key
   put_hides : (s : State K V X P W) (m : ℕ) (q : Record K V) (u : ℕ) → (eq key q.key ≡ true → ⊥) → IsKeyHidden eq says s key u → (n : ℕ) (r : Record K V) → get (insert s.records m q) n ≡ Some r → eq key r.key ≡ true → IsHidden says s r u
-  put_hides s m q u other h n r there same = elim (same_or_apart n m) [
-    | inl at ↦
-        let both : Some q ≡ Some r = sym (get_inserted s.records m q) ∙ sym (ap (get (insert s.records m q)) at) ∙ there in
-        let one : q ≡ r = cc in
-        absurd (other (ap (λ (x : Record K V). eq key x.key) one ∙ same))
-    | inr apart ↦ h n r (sym (get_past_insert s.records m q n apart) ∙ there) same
+  put_hides s m q u other h n r there same = elim (found_inserted s.records m q n r there) [
+    | inl (at, one) ↦ absurd (other (ap (λ (x : Record K V). eq key x.key) one ∙ same))
+    | inr (apart, before) ↦ h n r before same
   ]
 
 -- ---- lists of calls
@@ -135,10 +116,7 @@ module _ {K V X L P W C I : Type 0} (m : Meaning K V X L P W C I) (laws : IsEqui
     inserted = λ other hash value now w is on absent. put_hides m.eq m.says key s s.next_number (new_record m.created m.updated s other hash value now w) u (λ mine. true≢false (sym mine ∙ laws.symm key other ∙ another other hash value now is)) h;
     replaced = λ r other hash value now w is found. put_hides m.eq m.says key s r.number (updated_record m.created m.updated s r other value now w) u
         (λ mine. true≢false (sym mine ∙ laws.symm key r.key ∙ sym (laws.congr other r.key key (record_of_key_found m.eq s.records other r found).2) ∙ another other hash value now is)) h;
-    removed = λ other hash now r is found n q there mine. elim (same_or_apart n r.number) [
-      | inl at ↦ let no : None ≡ Some q = sym (get_removed s.records r.number) ∙ sym (ap (get (remove s.records r.number)) at) ∙ there in cc
-      | inr apart ↦ h n q (sym (get_past_remove s.records r.number n apart) ∙ there) mine
-    ];
+    removed = λ other hash now r is found n q there mine. h n q (found_removed s.records r.number n q there).1 mine;
     sent = λ ticket o is there room. h;
     hit = λ other r now moment found visible.
         let seen : IsVisible m.says s r u = subst (IsVisible m.says s r) (sym (at now moment)) visible in

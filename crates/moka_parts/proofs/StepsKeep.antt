@@ -1,30 +1,19 @@
 -- Every call step, and so every list of calls, keeps what holds of a state at every moment.
-use Rattle.std.proofs.Common.{◌≡◌, refl, ℕ, ◌<◌, Bool, false, List, [], ◌∷◌, ◌++◌, Option, Some, ap, sym, ◌∙◌, subst, ◌⊎◌, inl, inr, arith, true≢false}
+use Rattle.std.proofs.Common.{◌≡◌, refl, ℕ, ◌<◌, Bool, false, List, [], ◌∷◌, ◌++◌, Option, Some, ap, sym, ◌∙◌, inl, inr, arith, true≢false}
 use Rattle.std.proofs.lemmas.Bool.{or_parts}
-use Rattle.std.specs.Prelude.{Contains}
 use Rattle.std.specs.Cmp.{IsEquivalence}
-use Rattle.std.proofs.lemmas.List.Elements.{Contains-push_cases}
 use Rattle.std.specs.FinMap.{get, remove}
-use Rattle.moka_parts.specs.declared.policy.Instant.{Instant}
-use Rattle.moka_parts.specs.declared.records.Record.{Record}
-use Rattle.moka_parts.specs.declared.records.Registered.{Registered}
-use Rattle.moka_parts.specs.declared.records.ReadOperation.{ReadOperation}
-use Rattle.moka_parts.specs.declared.records.Ticketed.{Ticketed}
-use Rattle.moka_parts.specs.declared.records.Operation.{Operation}
-use Rattle.moka_parts.specs.declared.calls.Call.{Call}
-use Rattle.moka_parts.specs.declared.calls.Reply.{Reply}
-use Rattle.moka_parts.specs.Runs.{CallStep, Step, AreSteps, last_state}
-use Rattle.moka_parts.specs.Housekeeping.{Housekeeping}
-use Rattle.moka_parts.specs.Records.{Operations, Notice, record_of_key, with_record}
-use Rattle.moka_parts.specs.State.{State, Meaning, Events, is_disabled}
-use Rattle.moka_parts.specs.Maintenance.{Terms, Course, Freedom, MaintenanceRun, after_run}
-use Rattle.moka_parts.specs.Settling.{IsWaiting, IsWaitingIn, AreTicketed, IsValid}
+use Rattle.moka_parts.proofs.Types.{Instant, Record, Registered, ReadOperation, Ticketed, Operation, Call, Reply, Step, Housekeeping, Operations, Notice, State, Meaning, Events, Terms, Course, Freedom}
+use Rattle.moka_parts.specs.Runs.{CallStep, AreSteps, last_state}
+use Rattle.moka_parts.specs.Records.{record_of_key, with_record}
+use Rattle.moka_parts.specs.State.{is_disabled}
+use Rattle.moka_parts.specs.Maintenance.{MaintenanceRun, after_run, at_end}
+use Rattle.moka_parts.specs.Settling.{IsWaiting, IsWaitingIn, AreTicketed, IsValid, IsWellNumbered}
 use Rattle.moka_parts.specs.Laws.{StaysValid}
 use Rattle.moka_parts.specs.Calls.{hit_record, after_hit}
-use Rattle.moka_parts.proofs.Maps.{AreApart, same_or_apart, get_past_remove}
-use Rattle.moka_parts.proofs.Waiting.{WaitAlike, waits_sent}
+use Rattle.moka_parts.proofs.Waiting.{WaitAlike, waits_sent, sent_at}
 use Rattle.moka_parts.proofs.Consistent.{renew_kept, waiting_alike}
-use Rattle.moka_parts.proofs.Rising.{rising_sent, rising_applied}
+use Rattle.moka_parts.proofs.Rising.{rising_sent, rising_applied, waits_below}
 use Rattle.moka_parts.proofs.RunKeeps.{run_keeps}
 use Rattle.moka_parts.proofs.RunKeepsSound.{run_kept}
 use Rattle.moka_parts.proofs.Kept.{kept_by_run}
@@ -34,17 +23,9 @@ use Rattle.moka_parts.proofs.CallsKeep.{removal_valid, inserted_valid, replaced_
 -- one is sent
 pub ticketed_sent : (outstanding : Operations) (writes : List Ticketed) (next ticket : ℕ) (o : Operation) → get outstanding ticket ≡ Some o → AreTicketed outstanding writes next → AreTicketed (remove outstanding ticket) (writes ++ record { ticket = ticket; operation = o } ∷ []) next
 ticketed_sent outstanding writes next ticket o there h = record {
-  handed = λ n p at. handed n p at (same_or_apart n ticket);
-  sent = λ q at. sent q (Contains-push_cases writes (record { ticket = ticket; operation = o }) q at);
+  handed = λ n p at. waits_below outstanding writes next n p h ((sent_at outstanding writes ticket o there n p).1 (inl at));
+  sent = λ q at. waits_below outstanding writes next q.ticket q.operation h ((sent_at outstanding writes ticket o there q.ticket q.operation).1 (inr at));
 }
-  where
-    handed : (n : ℕ) (p : Operation) → get (remove outstanding ticket) n ≡ Some p → (n ≡ ticket) ⊎ AreApart n ticket → n < next
-    handed n p at (inl e) = h.handed n o (ap (get outstanding) e ∙ there)
-    handed n p at (inr apart) = h.handed n p (sym (get_past_remove outstanding ticket n apart) ∙ at)
-
-    sent : (q : Ticketed) → Contains writes q ⊎ (record { ticket = ticket; operation = o } ≡ q) → q.ticket < next
-    sent q (inl at) = h.sent q at
-    sent q (inr e) = subst (λ n. n < next) (ap (λ (x : Ticketed). x.ticket) e) (h.handed ticket o there)
 
 module _ {K V X P W : Type 0} (eq : K → K → Bool) where
   -- what the facts do not speak of may change
@@ -80,24 +61,18 @@ module _ {K V X P W : Type 0} (eq : K → K → Bool) where
 
   -- a run, by whatever choices
   pub run_valid : (s : State K V X P W) (ch : Freedom) → is_disabled s.capacity ≡ false → IsValid eq s → IsValid eq (after_run s ch)
-  run_valid s ch on h = record {
-    consistent = run_kept s ch h.consistent;
-    numbered = record {
-      numbered = record {
-        numbered = λ n r there. let q = run_keeps s ch n r there in let old = h.numbered.numbered.numbered n q.0 q.1 in (ap (λ (x : Record K V). x.number) q.2.1 ∙ old.0, old.1);
-        known = λ x waits. h.numbered.numbered.known x (fewer x waits);
-        one_each = λ a b p q there also same. let x = run_keeps s ch a p there in let y = run_keeps s ch b q also in
-            h.numbered.numbered.one_each a b x.0 y.0 x.1 y.1 (sym (ap (λ (z : Record K V). eq z.key y.0.key) x.2.1) ∙ sym (ap (λ (z : Record K V). eq p.key z.key) y.2.1) ∙ same);
-      };
-      ticketed = record { handed = h.numbered.ticketed.handed; sent = λ q at. let below : at.0 < 0 = at.1 in absurd (omega arith) };
-      disabled = λ off. absurd (true≢false (sym off ∙ on));
-    };
-    rising = rising_applied s.outstanding s.writes h.rising;
-  }
-    where
-      fewer : (x : Operation) → IsWaitingIn s.outstanding [] x → IsWaiting s x
-      fewer x (inl p) = inl p
-      fewer x (inr q) = let below : q.1.0 < 0 = q.1.1 in absurd (omega arith)
+  run_valid s ch on h =
+      let alike : IsWellNumbered eq (record s { records = (at_end s ch).records }) = with_records_numbered eq s (at_end s ch).records on h.numbered
+      (λ n r there. let old = run_keeps s ch n r there in (old.0, old.1, (ap (λ (x : Record K V). x.key) old.2.1, ap (λ (x : Record K V). x.number) old.2.1))) in
+      record {
+        consistent = run_kept s ch h.consistent;
+        numbered = record {
+          numbered = record { numbered = alike.numbered.numbered; known = λ x waits. h.numbered.numbered.known x (elim waits [ inl p ↦ inl p | inr q ↦ let below : q.1.0 < 0 = q.1.1 in absurd (omega arith) ]); one_each = alike.numbered.one_each };
+          ticketed = record { handed = h.numbered.ticketed.handed; sent = λ q at. let below : at.0 < 0 = at.1 in absurd (omega arith) };
+          disabled = λ off. absurd (true≢false (sym off ∙ on));
+        };
+        rising = rising_applied s.outstanding s.writes h.rising;
+      }
 
   module _ (says : P → K → V → Bool → Type 0) where
     -- a run of the reference cache

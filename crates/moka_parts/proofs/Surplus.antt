@@ -1,29 +1,24 @@
 -- Where weight is the only ground for a removal, the steps of a run remove the front, and just enough of it once the
 -- weight is within the capacity.
-use Rattle.std.proofs.Common.{◌≡◌, refl, ℕ, ◌+◌, ◌-◌, ◌≤◌, nat_le, Bool, true, false, true≢false, cond, not, ◌==◌, ◌&&◌, ◌||◌, List, [], ◌∷◌, length, Some, is_some, inl, inr, ap, sym, subst, ◌∙◌, arith, if◌then◌else◌, option_map}
-use Rattle.std.specs.Prelude.{slice_get, take}
+use Rattle.std.proofs.Common.{◌≡◌, refl, ℕ, ◌+◌, ◌-◌, ◌≤◌, nat_le, Bool, true, false, true≢false, cond, not, ◌==◌, ◌&&◌, ◌||◌, List, [], ◌∷◌, length, Some, is_some, inl, inr, ap, sym, subst, ◌∙◌, arith, if◌then◌else◌, option_map, slice_get, take}
 use Rattle.std.specs.Option.{option_map_or}
 use Rattle.std.specs.List.{IsDistinct, list_all}
-use Rattle.std.proofs.lemmas.Bool.{and_parts}
+use Rattle.std.proofs.lemmas.Bool.{and_parts, or_from, and_left}
 use Rattle.std.proofs.lemmas.List.Sums.{sum_by-cons}
 use Rattle.std.specs.FinMap as finite
-use Rattle.std.specs.Ordering.{nat_cmp}
-use Rattle.moka_parts.specs.declared.notification.RemovalCause.TheVariants.{Expired, Explicit, Replaced, Size}
-use Rattle.moka_parts.specs.declared.records.Record.{Record}
-use Rattle.moka_parts.specs.declared.records.Member.{Member}
-use Rattle.moka_parts.specs.Records.{Records, counted_of, is_applied, is_settled, is_member, numbers_of, total_weight, without_member}
-use Rattle.moka_parts.specs.State.{State, Contents}
+use Rattle.moka_parts.proofs.Types.{Expired, Explicit, Replaced, Size, Record, Member, Records, State, Contents, Choice, Removes, MovesToBack, Drops, Freedom}
+use Rattle.moka_parts.specs.Records.{counted_of, is_applied, is_settled, is_member, numbers_of, total_weight, without_member}
 use Rattle.moka_parts.specs.Visibility.{has_lapsed, is_expired, is_past_live, is_past_idle, is_written_before, is_read_before}
 use Rattle.moka_parts.specs.Candidates.{prefix}
 use Rattle.moka_parts.specs.Exact.{IsWithin}
 use Rattle.moka_parts.specs.Settling.{IsConsistentState}
-use Rattle.moka_parts.specs.Maintenance.{Choice, Removes, MovesToBack, Drops, Freedom, before_steps, at_end, AreFree, after_choice, after_choices, kept_by_choice, IsJustified, AreJustified, tests_of, is_front, is_over}
+use Rattle.moka_parts.specs.Maintenance.{before_steps, at_end, AreFree, after_choice, after_choices, kept_by_choice, IsJustified, AreJustified, tests_of, is_front, is_over}
 use Rattle.moka_parts.specs.Bounds.{removed_by, IsPlainSurplus}
 use Rattle.moka_parts.specs.Laws.{RemovesEnough, RemovesFirst}
 use Rattle.moka_parts.proofs.RunKeepsSound.{queues_kept}
 use Rattle.moka_parts.proofs.AccessList.{absent_taken_out}
 use Rattle.moka_parts.proofs.Counting.{front_once, rest_once}
-use Rattle.moka_parts.proofs.Maps.{AreApart, same_or_apart, itself_tested, same_by_test, get_removed, get_past_remove}
+use Rattle.moka_parts.proofs.Maps.{same_or_apart, itself_tested, same_by_test, get_past_remove, found_removed}
 
 -- a front that is no weight
 pub prefix_of_none : (members : List Member) (w : ℕ) → w ≡ 0 → prefix members w ≡ Some []
@@ -47,17 +42,6 @@ none_of_five false false true d e h = cc
 none_of_five false false false true e h = cc
 none_of_five false false false false true h = cc
 
-none_of_three : (a b c : Bool) → a ≡ false → b ≡ false → c ≡ false → (a || b || c) ≡ true → ⊥
-none_of_three false false false p q r h = absurd (true≢false (sym h))
-none_of_three true b c p q r h = absurd (true≢false p)
-none_of_three false true c p q r h = absurd (true≢false q)
-none_of_three false false true p q r h = absurd (true≢false r)
-
-none_of_two : (a b c d : Bool) → a ≡ false → c ≡ false → (a && b || c && d) ≡ true → ⊥
-none_of_two false b false d p q h = absurd (true≢false (sym h))
-none_of_two true b c d p q h = absurd (true≢false p)
-none_of_two false b true d p q h = absurd (true≢false q)
-
 -- where all are settled, each member is
 settled_member : {K V : Type 0} (records : Records K V) (members : List Member) (n : ℕ) → list_all (λ a. is_settled records a.number) members ≡ true → is_member n members ≡ true → is_settled records n ≡ true
 settled_member records [] n all there = absurd (true≢false (sym there))
@@ -73,31 +57,24 @@ record IsPlain {K V X P W : Type 0} (s : State K V X P W) (now : ℕ) (c : Conte
   pub settled : (n : ℕ) → is_member n c.access ≡ true → is_settled c.records n ≡ true
   pub fresh : (n : ℕ) (r : Record K V) → finite.get c.records n ≡ Some r → has_lapsed s.settings s.invalid_before r now ≡ false
 
--- the front's removal, as it shows in the list
-record IsFirst (n : ℕ) (members : List Member) : Type 0 where
-  pub first : Member
-  pub rest : List Member
-  pub are : members ≡ first ∷ rest
-  pub number : first.number ≡ n
-
-front_is : (n : ℕ) (members : List Member) → is_front n members ≡ true → IsFirst n members
+-- the number of the front is that of the first
+front_is : (n : ℕ) (members : List Member) → is_front n members ≡ true → (first : Member) × (rest : List Member) × (members ≡ first ∷ rest) × (first.number ≡ n)
 front_is n [] e = cc
-front_is n (a ∷ members) e = record { first = a; rest = members; are = refl; number = same_by_test a.number n e }
-
-gone_or_there : {A : Type 0} (m : finite.FinMap nat_cmp A) (n k : ℕ) (x : A) → finite.get (finite.remove m n) k ≡ Some x → AreApart k n × (finite.get m k ≡ Some x)
-gone_or_there m n k x h = elim (same_or_apart k n) [
-  | inl same ↦ (let none = get_removed m n in let e = ap (λ i. finite.get (finite.remove m n) i) same in cc)
-  | inr apart ↦ (apart, sym (get_past_remove m n k apart) ∙ h)
-]
+front_is n (a ∷ members) e = (a, members, refl, same_by_test a.number n e)
 
 module _ {K V X P W : Type 0} (says : P → K → V → Bool → Type 0) (s : State K V X P W) (now : ℕ) where
+  -- none of the five tests hides a record
+  not_lapsed : (c : Contents K V) → IsPlain s now c → (n : ℕ) (r : Record K V) → finite.get c.records n ≡ Some r →
+      (is_expired r now ≡ false) × (is_past_live s.settings r now ≡ false) × (is_past_idle s.settings r now ≡ false) × (is_written_before s.invalid_before r ≡ false) × (is_read_before s.invalid_before r ≡ false)
+  not_lapsed c h n r there = none_of_five _ _ _ _ _ (h.fresh n r there)
+
   -- only too much weight takes a record out
   only_size : (c : Contents K V) → IsPlain s now c → (x : Choice) → IsJustified says (tests_of s now) c [] x → (n : ℕ) × (x ≡ Removes n Size) × ((is_front n c.access && is_over s.capacity c.access) ≡ true)
   only_size c h (Removes n Size) may = (n, refl, may.3)
   only_size c h (Removes n Replaced) may = absurd may.3
-  only_size c h (Removes n Expired) may = (let p = none_of_five (is_expired may.0 now) (is_past_live s.settings may.0 now) (is_past_idle s.settings may.0 now) (is_written_before s.invalid_before may.0) (is_read_before s.invalid_before may.0) (h.fresh n may.0 may.1) in absurd (none_of_three (is_expired may.0 now) (is_past_live s.settings may.0 now) (is_past_idle s.settings may.0 now) p.0 p.1 p.2 may.3))
+  only_size c h (Removes n Expired) may = let none = not_lapsed c h n may.0 may.1 in absurd (true≢false (sym may.3 ∙ or_from _ _ (or_from _ _ none.0 none.1) none.2))
   only_size c h (Removes n Explicit) may = elim may.3 [
-    | inl bad ↦ (let p = none_of_five (is_expired may.0 now) (is_past_live s.settings may.0 now) (is_past_idle s.settings may.0 now) (is_written_before s.invalid_before may.0) (is_read_before s.invalid_before may.0) (h.fresh n may.0 may.1) in absurd (none_of_two (is_written_before s.invalid_before may.0) (not (is_past_live s.settings may.0 now)) (is_read_before s.invalid_before may.0) (not (is_past_idle s.settings may.0 now)) p.3 p.4 bad))
+    | inl ground ↦ let none = not_lapsed c h n may.0 may.1 in absurd (true≢false (sym ground ∙ or_from _ _ (and_left _ _ none.3) (and_left _ _ none.4)))
     | inr covered ↦ absurd covered
   ]
   only_size c h (MovesToBack n) may = absurd (true≢false (sym (h.settled n may.0) ∙ may.1))
@@ -113,7 +90,7 @@ module _ {K V X P W : Type 0} (says : P → K → V → Bool → Type 0) (s : St
           | inl same ↦ (let none = front_once a rest once in let e = ap (λ k. counted_of k rest) same in absurd (true≢false (sym there ∙ ap is_some (e ∙ none))))
           | inr apart ↦ ap (λ o. option_map_or is_applied o false) (get_past_remove c.records a.number n apart) ∙ h.settled n (ap (λ (xs : List Member). is_member n xs) are ∙ ap (λ b. is_some (cond b (Some a.counted) (counted_of n rest))) apart.back ∙ there)
         ];
-        fresh = λ n r there. h.fresh n r (gone_or_there c.records a.number n r there).1;
+        fresh = λ n r there. h.fresh n r (found_removed c.records a.number n r there).1;
       }
 
   -- a removal of the front, and what follows
@@ -130,19 +107,20 @@ module _ {K V X P W : Type 0} (says : P → K → V → Bool → Type 0) (s : St
   takes_front : (c : Contents K V) (x : Choice) (xs : List Choice) → IsPlain s now c → AreJustified says (tests_of s now) c [] (x ∷ xs) → TakesFront c x xs
   takes_front c x xs h may =
       let only = only_size c h x may.0 in
-      let it = front_is only.0 c.access (and_parts (is_front only.0 c.access) (is_over s.capacity c.access) only.2).0 in
-      let once = subst (λ (ys : List Member). IsDistinct (◌==◌) (numbers_of ys)) it.are h.once in
-      let step : x ≡ Removes it.first.number Size = only.1 ∙ ap (λ n. Removes n Size) (sym it.number) in
-      let after : after_choice c x ≡ record c { records = finite.remove c.records it.first.number; access = it.rest } =
-      ap (after_choice c) step ∙ ap (λ ys. record c { records = finite.remove c.records it.first.number; access = ys }) (ap (without_member it.first.number) it.are ∙ rest_left it.first it.rest once) in
+      let both = and_parts (is_front only.0 c.access) (is_over s.capacity c.access) only.2 in
+      let (first, rest, are, number) = front_is only.0 c.access both.0 in
+      let once = subst (λ (ys : List Member). IsDistinct (◌==◌) (numbers_of ys)) are h.once in
+      let step : x ≡ Removes first.number Size = only.1 ∙ ap (λ n. Removes n Size) (sym number) in
+      let after : after_choice c x ≡ record c { records = finite.remove c.records first.number; access = rest } =
+      ap (after_choice c) step ∙ ap (λ ys. record c { records = finite.remove c.records first.number; access = ys }) (ap (without_member first.number) are ∙ rest_left first rest once) in
       record {
-        first = it.first;
-        rest = it.rest;
-        are = it.are;
-        over = (and_parts (is_front only.0 c.access) (is_over s.capacity c.access) only.2).1;
+        first = first;
+        rest = rest;
+        are = are;
+        over = both.1;
         step = step;
         after = after;
-        plain = subst (IsPlain s now) (sym after) (plain_on c it.first it.rest h it.are);
+        plain = subst (IsPlain s now) (sym after) (plain_on c first rest h are);
         may = subst (λ ps. AreJustified says (tests_of s now) (after_choice c x) ps xs) (ap (kept_by_choice []) step) may.1;
       }
 
@@ -189,42 +167,28 @@ module _ {K V X P W : Type 0} (says : P → K → V → Bool → Type 0) (s : St
   still_plain c [] h may = h
   still_plain c (x ∷ xs) h may = let f = takes_front c x xs h may in still_plain (after_choice c x) xs f.plain f.may
 
-  plain_surplus : (capacity : ℕ) (c : Contents K V) → IsPlainSurplus s now capacity c → IsDistinct (◌==◌) (numbers_of c.access) → IsPlain s now c
-  plain_surplus capacity c h once = record { once = once; settled = λ n there. settled_member c.records c.access n h.settled there; fresh = h.fresh }
+  module _ (ch : Freedom) where
+    module _ (capacity : ℕ) (h : IsConsistentState s) (free : AreFree says s now ch) (surplus : IsPlainSurplus s now capacity (before_steps s ch)) where
+      plain : IsPlain s now (before_steps s ch)
+      plain = record { once = (queues_kept s ch h).once; settled = λ n there. settled_member (before_steps s ch).records (before_steps s ch).access n surplus.settled there; fresh = surplus.fresh }
 
-  module _ (capacity : ℕ) (c : Contents K V) (xs : List Choice) (h : IsPlainSurplus s now capacity c) (once : IsDistinct (◌==◌) (numbers_of c.access)) (may : AreJustified says (tests_of s now) c s.predicates xs) where
-    none_registered : AreJustified says (tests_of s now) c [] xs
-    none_registered = subst (λ ps. AreJustified says (tests_of s now) c ps xs) h.no_predicate may
+      may : AreJustified says (tests_of s now) (before_steps s ch) [] ch.steps
+      may = subst (λ ps. AreJustified says (tests_of s now) (before_steps s ch) ps ch.steps) surplus.no_predicate free.1
+
+      -- a test that each removal for an exceeded capacity passes, all the steps of a run pass
+      pub removes_for_size_alone : (test : Choice → Bool) → ((n : ℕ) → test (Removes n Size) ≡ true) → list_all test ch.steps ≡ true
+      removes_for_size_alone test passed = all_for_size test passed (before_steps s ch) ch.steps plain may
+
+      -- all members that it leaves are settled
+      pub leaves_settled : (n : ℕ) → is_member n (at_end s ch).access ≡ true → is_settled (at_end s ch).records n ≡ true
+      leaves_settled = (still_plain (before_steps s ch) ch.steps plain may).settled
 
     -- steps that end within the capacity remove the shortest front that is heavy enough
-    pub surplus_is_front : IsWithin s.capacity (after_choices c xs).access → (front : List Member) × (prefix c.access (total_weight c.access - capacity) ≡ Some front) × (removed_by xs ≡ numbers_of front)
-    surplus_is_front within = enough_removed capacity h.limited c xs (plain_surplus capacity c h once) none_registered (subst (λ o. IsWithin o (after_choices c xs).access) h.limited within)
+    pub removes_enough : RemovesEnough says s now ch
+    removes_enough capacity h free surplus within =
+        enough_removed capacity surplus.limited (before_steps s ch) ch.steps (plain capacity h free surplus) (may capacity h free surplus) (subst (λ o. IsWithin o (at_end s ch).access) surplus.limited within)
 
     -- steps that remove so many remove just the first ones
-    pub removed_are_first : (batch : ℕ) → length (removed_by xs) ≡ batch → removed_by xs ≡ numbers_of (take batch c.access)
-    removed_are_first batch many = front_removed c xs (plain_surplus capacity c h once) none_registered ∙ ap (λ k. numbers_of (take k c.access)) many
-
-    plain : IsPlain s now c
-    plain = plain_surplus capacity c h once
-
-    -- a test that each removal for an exceeded capacity passes, all the steps pass
-    for_size_alone : (test : Choice → Bool) → ((n : ℕ) → test (Removes n Size) ≡ true) → list_all test xs ≡ true
-    for_size_alone test passed = all_for_size test passed c xs plain none_registered
-
-    -- all members that are left are settled
-    left_settled : (n : ℕ) → is_member n (after_choices c xs).access ≡ true → is_settled (after_choices c xs).records n ≡ true
-    left_settled = (still_plain c xs plain none_registered).settled
-
-module _ {K V X P W : Type 0} (says : P → K → V → Bool → Type 0) (s : State K V X P W) (now : ℕ) (ch : Freedom) where
-  -- so it is with the steps of a run
-  pub removes_enough : RemovesEnough says s now ch
-  removes_enough capacity h free plain within = surplus_is_front says s now capacity (before_steps s ch) ch.steps plain (queues_kept s ch h).once free.1 within
-
-  pub removes_first : RemovesFirst says s now ch
-  removes_first capacity many h free plain as_many = removed_are_first says s now capacity (before_steps s ch) ch.steps plain (queues_kept s ch h).once free.1 many as_many
-
-  pub removes_for_size_alone : (capacity : ℕ) → IsConsistentState s → AreFree says s now ch → IsPlainSurplus s now capacity (before_steps s ch) → (test : Choice → Bool) → ((n : ℕ) → test (Removes n Size) ≡ true) → list_all test ch.steps ≡ true
-  removes_for_size_alone capacity h free plain test passed = for_size_alone says s now capacity (before_steps s ch) ch.steps plain (queues_kept s ch h).once free.1 test passed
-
-  pub leaves_settled : (capacity : ℕ) → IsConsistentState s → AreFree says s now ch → IsPlainSurplus s now capacity (before_steps s ch) → (n : ℕ) → is_member n (at_end s ch).access ≡ true → is_settled (at_end s ch).records n ≡ true
-  leaves_settled capacity h free plain n there = left_settled says s now capacity (before_steps s ch) ch.steps plain (queues_kept s ch h).once free.1 n there
+    pub removes_first : RemovesFirst says s now ch
+    removes_first capacity many h free surplus as_many =
+        front_removed (before_steps s ch) ch.steps (plain capacity h free surplus) (may capacity h free surplus) ∙ ap (λ k. numbers_of (take k (before_steps s ch).access)) as_many

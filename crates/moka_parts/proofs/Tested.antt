@@ -1,9 +1,9 @@
 -- What a test of the key finds is what the one key that passes has.
 use Rattle.std.proofs.Common.{◌≡◌, refl, ℕ, Bool, true, cond, List, [], ◌∷◌, Option, Some, None, find, ap, sym, ◌∙◌}
 use Rattle.std.specs.FinMap.{get, values}
-use Rattle.moka_parts.specs.declared.records.Record.{Record}
+use Rattle.moka_parts.proofs.Types.{Record, Records}
 use Rattle.moka_parts.specs.KeyTests.{record_by}
-use Rattle.moka_parts.specs.Records.{Records, record_of_key}
+use Rattle.moka_parts.specs.Records.{record_of_key}
 use Rattle.moka_parts.proofs.Lookup.{record_of_key_found}
 
 -- tests with the same answers find the same

@@ -1,15 +1,10 @@
 -- What waits, by ticket: tickets rise, each waits under its own, and later upserts of a record have later generations.
-use Rattle.std.proofs.Common.{◌≡◌, ℕ, zero, suc, ◌+◌, ◌<◌, T, List, [], ◌∷◌, ◌++◌, map, length, Some, sym, subst, inl, inr, arith}
-use Rattle.std.specs.Prelude.{Contains, ⊤, slice_index}
+use Rattle.std.proofs.Common.{◌≡◌, ℕ, zero, suc, ◌+◌, ◌<◌, T, List, [], ◌∷◌, ◌++◌, map, length, Some, sym, subst, inl, inr, arith, Contains, slice_index, nat_cmp}
 use Rattle.std.specs.List.{AllByRecursion}
 use Rattle.std.specs.List.Sorted.{IsStrictlyIncreasing}
 use Rattle.std.proofs.lemmas.List.Elements.{All-weaker, All-contains_itself, recursion_from_All}
-use Rattle.std.specs.Ordering.{nat_cmp}
 use Rattle.std.specs.FinMap.{get, entries, entries_sorted, is_sorted}
-use Rattle.moka_parts.specs.declared.records.Ticketed.{Ticketed}
-use Rattle.moka_parts.specs.declared.records.Operation.{Operation}
-use Rattle.moka_parts.specs.declared.records.Operation.TheVariants.{Upsert, Removal}
-use Rattle.moka_parts.specs.Records.{Operations}
+use Rattle.moka_parts.proofs.Types.{Ticketed, Operation, Upsert, Removal, Operations}
 use Rattle.moka_parts.specs.Settling.{WaitsAt, AreRising}
 use Rattle.moka_parts.proofs.Lookup.{left_part, right_part}
 use Rattle.moka_parts.proofs.Entries.{each_entry, all_above}
@@ -37,7 +32,7 @@ all_both P Q R (x ∷ xs) f h k = (f x h.0 k.0, all_both P Q R xs f h.1 k.1)
 
 -- each ticket is below all behind it
 abbrev pub TicketsRise : List Ticketed → Type 0
-TicketsRise [] = ⊤
+TicketsRise [] = Unit {0}
 TicketsRise (h ∷ hs) = AllByRecursion (λ (q : Ticketed). h.ticket < q.ticket) hs × TicketsRise hs
 
 -- two lists of them
@@ -49,7 +44,7 @@ above_first : (h : Ticketed) (hs : List Ticketed) → ((k : ℕ) → k + 1 < len
 above_first h [] up rest = tt
 above_first h (q ∷ hs) up rest =
     let first : h.ticket < q.ticket = up zero (omega arith) in
-    (first, all_both (λ (p : Ticketed). q.ticket < p.ticket) (λ _. ⊤) (λ (p : Ticketed). h.ticket < p.ticket) hs (λ p lt _. omega arith) rest.0 (all_of (λ _. ⊤) hs (λ _ _. tt)))
+    (first, all_both (λ (p : Ticketed). q.ticket < p.ticket) (λ _. Unit {0}) (λ (p : Ticketed). h.ticket < p.ticket) hs (λ p lt _. omega arith) rest.0 (all_of (λ _. Unit {0}) hs (λ _ _. tt)))
 
 -- queued tickets, as the standard library says that they rise
 pub tickets_rise : (hs : List Ticketed) → IsStrictlyIncreasing (map (λ h. h.ticket) hs) → TicketsRise hs

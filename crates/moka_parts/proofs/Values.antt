@@ -1,8 +1,6 @@
 -- The values of a finite map after a change, in some order, and how many there are.
-use Rattle.std.proofs.Common.{◌≡◌, refl, ℕ, ◌+◌, cond, List, [], ◌∷◌, map, Some, None, is_some, ap, sym, ◌∙◌, subst, inl, inr, Ordering, Less, Equal, Greater, is_eq}
-use Rattle.std.specs.Prelude.{IsPermutation}
+use Rattle.std.proofs.Common.{◌≡◌, refl, ℕ, ◌+◌, cond, List, [], ◌∷◌, map, Some, None, is_some, ap, sym, ◌∙◌, subst, inl, inr, Ordering, Less, Equal, Greater, is_eq, IsPermutation, nat_cmp}
 use Rattle.std.proofs.lemmas.List.Sorted.{IsPermutation-refl, IsPermutation-sym, IsPermutation-cons, IsPermutation-trans, IsPermutation-middle}
-use Rattle.std.specs.Ordering.{nat_cmp}
 use Rattle.std.specs.Cmp.{nat_cmp_total}
 use Rattle.std.specs.FinMap.{FinMap, get, insert, remove, empty, entries, values, len, put, get-empty, get-entries, entries-insert, len-insert, same_map, nat_cmp-IsAntisymmetric}
 use Rattle.std.specs.FinMap as finite

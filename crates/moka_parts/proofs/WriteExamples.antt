@@ -1,16 +1,10 @@
 -- What writes do on worked cases.
-use Rattle.std.proofs.Common.{◌≡◌, refl, ℕ, List, [], ◌∷◌, Option, Some, None}
-use Rattle.std.specs.Ordering.{nat_cmp}
+use Rattle.std.proofs.Common.{◌≡◌, refl, ℕ, List, [], ◌∷◌, Option, Some, None, nat_cmp}
 use Rattle.std.specs.FinMap.{get, remove, from_sorted, get-from_sorted}
-use Rattle.moka_parts.specs.declared.notification.RemovalCause.TheVariants.{Size}
-use Rattle.moka_parts.specs.declared.policy.EvictionPolicy.TheVariants.{TinyLfu, Lru}
-use Rattle.moka_parts.specs.declared.records.Record.{Record}
-use Rattle.moka_parts.specs.declared.records.Member.{Member}
-use Rattle.moka_parts.specs.declared.records.Operation.TheVariants.{Upsert}
-use Rattle.moka_parts.specs.Records.{Records, member}
-use Rattle.moka_parts.specs.State.{Contents}
+use Rattle.moka_parts.proofs.Types.{Size, TinyLfu, Lru, Record, Member, Upsert, Records, Contents, Overtaken, Admitted, TooHeavy, Preferred, Refused}
+use Rattle.moka_parts.specs.Records.{member}
 use Rattle.moka_sketch.specs.Frequency.{Table, table_after}
-use Rattle.moka_parts.specs.Writes.{fate, after_write, left_by_write, Overtaken, Admitted, TooHeavy, Preferred, Refused}
+use Rattle.moka_parts.specs.Writes.{fate, after_write, left_by_write}
 
 -- a record whose number, key and hash are the same
 abbrev record_with : (number weight generation applied : ℕ) → Record ℕ ℕ
@@ -41,15 +35,12 @@ full access sketch = record { records = records; access = access; sketch = sketc
 abbrev seen : List ℕ → Option Table
 seen hashes = Some (table_after 128 hashes)
 
--- a tie is refused: nothing was seen of either
-pub tie_refused : fate (Some 2) TinyLfu (full (member 1 1 ∷ member 2 1 ∷ []) None) (Upsert 3 1 1 3) ≡ Refused
-tie_refused = rw (third, first, second) refl
-
-pub refused_leaves : after_write (Some 2) TinyLfu (full (member 1 1 ∷ member 2 1 ∷ []) None) (Upsert 3 1 1 3) [] ≡ record (full (member 1 1 ∷ member 2 1 ∷ []) None) { records = remove records 3 }
-refused_leaves = rw (third, first, second) refl
-
-pub refused_told : left_by_write (Some 2) TinyLfu (full (member 1 1 ∷ member 2 1 ∷ []) None) (Upsert 3 1 1 3) ≡ (3, 7, Size) ∷ []
-refused_told = rw (third, first, second) refl
+-- a tie is refused, since nothing was seen of either: the candidate leaves the map, and that is told
+pub tie_refused :
+    (fate (Some 2) TinyLfu (full (member 1 1 ∷ member 2 1 ∷ []) None) (Upsert 3 1 1 3) ≡ Refused)
+    × (after_write (Some 2) TinyLfu (full (member 1 1 ∷ member 2 1 ∷ []) None) (Upsert 3 1 1 3) [] ≡ record (full (member 1 1 ∷ member 2 1 ∷ []) None) { records = remove records 3 })
+    × (left_by_write (Some 2) TinyLfu (full (member 1 1 ∷ member 2 1 ∷ []) None) (Upsert 3 1 1 3) ≡ (3, 7, Size) ∷ [])
+tie_refused = rw (third, first, second) (refl, refl, refl)
 
 -- after reads of 3 and 1 the candidate 3 takes the place of 2
 pub seen_more_often : fate (Some 2) TinyLfu (full (member 2 1 ∷ member 1 1 ∷ []) (seen (3 ∷ 1 ∷ []))) (Upsert 3 1 1 3) ≡ Preferred (member 2 1 ∷ [])
@@ -68,11 +59,10 @@ pub late_upsert : after_write (Some 2) Lru (full (member 1 1 ∷ []) None) (Upse
 late_upsert = rw fourth refl
 
 -- an overtaken upsert of a member moves it and no more
-pub overtaken_upsert : (after_write None Lru (full (member 1 1 ∷ member 2 1 ∷ []) None) (Upsert 1 1 9 1) []).access ≡ member 2 1 ∷ member 1 1 ∷ []
-overtaken_upsert = rw first refl
-
-pub overtaken_fate : fate None Lru (full (member 1 1 ∷ member 2 1 ∷ []) None) (Upsert 1 1 9 1) ≡ Overtaken
-overtaken_fate = rw first refl
+pub overtaken_upsert :
+    (fate None Lru (full (member 1 1 ∷ member 2 1 ∷ []) None) (Upsert 1 1 9 1) ≡ Overtaken)
+    × ((after_write None Lru (full (member 1 1 ∷ member 2 1 ∷ []) None) (Upsert 1 1 9 1) []).access ≡ member 2 1 ∷ member 1 1 ∷ [])
+overtaken_upsert = rw first (refl, refl)
 
 -- a newer upsert of a member brings its weight
 pub newer_upsert : (after_write None Lru (full (member 1 1 ∷ member 2 1 ∷ []) None) (Upsert 1 2 9 1) []).access ≡ member 2 1 ∷ member 1 9 ∷ []

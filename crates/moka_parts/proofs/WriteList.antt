@@ -1,40 +1,37 @@
 -- Lists of numbers after a change: which stand there, and that none stands twice.
 use Rattle.std.proofs.Common.{◌≡◌, refl, ℕ, Bool, true, false, cond, not, ◌==◌, ◌||◌, List, [], ◌∷◌, ◌++◌, ap, sym, ◌∙◌, inl, inr, if◌then◌else◌}
 use Rattle.std.proofs.Math.Bool.{or-false, or-true}
-use Rattle.std.specs.List.{IsDistinct, AllByRecursion}
-use Rattle.moka_parts.specs.declared.records.Member.{Member}
+use Rattle.std.specs.List.{IsDistinct, AllByRecursion, list_any}
+use Rattle.moka_parts.proofs.Types.{Member}
 use Rattle.moka_parts.specs.Records.{is_listed, without_number, without_numbers, number_to_back}
-use Rattle.moka_parts.proofs.Maps.{AreApart, same_or_apart, same_by_test, itself_tested, apart_turned}
+use Rattle.moka_parts.proofs.Maps.{AreApart, same_or_apart, same_by_test, itself_tested, numbers_alike}
+use Rattle.std.proofs.lemmas.List.Elements.{All-filter, All-from_recursion, recursion_from_All}
+use Rattle.std.proofs.lemmas.List.Folds.{list_any-append, list_any_none}
+use Rattle.std.proofs.lemmas.Map.Views.{any-filter_same}
+use Rattle.std.proofs.lemmas.Map.Keys.{IsDistinct-push}
+use Rattle.std.proofs.lemmas.Bool.{and_right}
 
 -- ---- which stand there
 
+-- the test turned round
+pub turned : (n : ℕ) (ns : List ℕ) → list_any (λ m. n == m) ns ≡ is_listed n ns
+turned n ns = λ i. list_any (λ m. numbers_alike.symm n m i) ns
+
 -- a number that differs from all does not stand there
 pub unlisted_all : (n : ℕ) (ns : List ℕ) → AllByRecursion (λ y. (n == y) ≡ false) ns → is_listed n ns ≡ false
-unlisted_all n [] h = refl
-unlisted_all n (m ∷ ns) h = ap (λ b. b || is_listed n ns) (apart_turned n m h.0) ∙ unlisted_all n ns h.1
+unlisted_all n ns h = sym (turned n ns) ∙ list_any_none (λ m. n == m) ns (All-from_recursion (λ y. (n == y) ≡ false) ns h)
 
 -- what is put at the back
 pub listed_pushed : (k n : ℕ) (ns : List ℕ) → is_listed k (ns ++ n ∷ []) ≡ (is_listed k ns || (n == k))
-listed_pushed k n [] = or-false (n == k)
-listed_pushed k n (m ∷ ns) = elim (m == k) as (λ b. (b || is_listed k (ns ++ n ∷ [])) ≡ ((b || is_listed k ns) || (n == k))) [ true ↦ refl | false ↦ listed_pushed k n ns ]
+listed_pushed k n ns = list_any-append (λ m. m == k) ns (n ∷ []) ∙ ap (λ b. is_listed k ns || b) (or-false (n == k))
 
 -- what is taken out
 pub listed_taken_out : (n : ℕ) (ns : List ℕ) → is_listed n (without_number n ns) ≡ false
-listed_taken_out n [] = refl
-listed_taken_out n (m ∷ ns) = go (listed_taken_out n ns) (m == n) refl
-  where
-    go : is_listed n (without_number n ns) ≡ false → (b : Bool) → (m == n) ≡ b → is_listed n (cond (not b) (m ∷ without_number n ns) (without_number n ns)) ≡ false
-    go rest true e = rest
-    go rest false e = ap (λ b. b || is_listed n (without_number n ns)) e ∙ rest
+listed_taken_out n ns = any-filter_same (λ m. m == n) (λ m. not (m == n)) false (λ k same. ap not same) ns
 
 -- another number
 pub listed_past_taken_out : (n k : ℕ) (ns : List ℕ) → AreApart k n → is_listed k (without_number n ns) ≡ is_listed k ns
-listed_past_taken_out n k [] apart = refl
-listed_past_taken_out n k (m ∷ ns) apart = go (listed_past_taken_out n k ns apart) (m == n) refl
-  where
-    go : is_listed k (without_number n ns) ≡ is_listed k ns → (b : Bool) → (m == n) ≡ b → is_listed k (cond (not b) (m ∷ without_number n ns) (without_number n ns)) ≡ ((m == k) || is_listed k ns)
-    go rest true e = rest ∙ sym (ap (λ b. b || is_listed k ns) (ap (λ (x : ℕ). x == k) (same_by_test m n e) ∙ apart.back))
-    go rest false e = ap (λ b. (m == k) || b) rest
+listed_past_taken_out n k ns apart = any-filter_same (λ m. m == k) (λ m. not (m == n)) true (λ m same. ap (λ x. not (x == n)) (same_by_test m k same) ∙ ap not apart.forth) ns
 
 -- nothing is taken out where the number does not stand
 pub unlisted_taken_out : (n : ℕ) (ns : List ℕ) → is_listed n ns ≡ false → without_number n ns ≡ ns
@@ -48,10 +45,8 @@ unlisted_taken_out n (m ∷ ns) absent = go (unlisted_taken_out n ns) (m == n) r
 -- what does not stand there stays so
 pub unlisted_without : (gone : List Member) (k : ℕ) (ns : List ℕ) → is_listed k ns ≡ false → is_listed k (without_numbers gone ns) ≡ false
 unlisted_without [] k ns absent = absent
-unlisted_without (a ∷ gone) k ns absent = unlisted_without gone k (without_number a.number ns) (elim (same_or_apart k a.number) [
-  | inl same ↦ ap (λ x. is_listed x (without_number a.number ns)) same ∙ listed_taken_out a.number ns
-  | inr apart ↦ listed_past_taken_out a.number k ns apart ∙ absent
-])
+unlisted_without (a ∷ gone) k ns absent = unlisted_without gone k (without_number a.number ns)
+    (any-filter_same (λ m. m == k) (λ m. not (m == a.number)) (not (k == a.number)) (λ m same. ap (λ x. not (x == a.number)) (same_by_test m k same)) ns ∙ and_right _ _ absent)
 
 -- a move to the back changes nothing
 pub listed_moved : (n k : ℕ) (ns : List ℕ) → is_listed k (number_to_back n ns) ≡ is_listed k ns
@@ -66,29 +61,15 @@ listed_moved n k ns = go (is_listed n ns) refl
 
 -- ---- none twice
 
-all_taken_out : (P : ℕ → Type 0) (n : ℕ) (ns : List ℕ) → AllByRecursion P ns → AllByRecursion P (without_number n ns)
-all_taken_out P n [] h = tt
-all_taken_out P n (m ∷ ns) h = elim (not (m == n)) as (λ b. AllByRecursion P (cond b (m ∷ without_number n ns) (without_number n ns))) [ true ↦ (h.0, all_taken_out P n ns h.1) | false ↦ all_taken_out P n ns h.1 ]
-
 -- where a number is taken out
 pub once_taken_out : (n : ℕ) (ns : List ℕ) → IsDistinct (◌==◌) ns → IsDistinct (◌==◌) (without_number n ns)
 unfolding IsDistinct
 once_taken_out n [] h = tt
-once_taken_out n (m ∷ ns) h = elim (not (m == n)) as (λ b. IsDistinct (◌==◌) (cond b (m ∷ without_number n ns) (without_number n ns))) [ true ↦ (all_taken_out (λ y. (m == y) ≡ false) n ns h.0, once_taken_out n ns h.1) | false ↦ once_taken_out n ns h.1 ]
-
-all_pushed : (P : ℕ → Type 0) (n : ℕ) (ns : List ℕ) → AllByRecursion P ns → P n → AllByRecursion P (ns ++ n ∷ [])
-all_pushed P n [] h p = (p, tt)
-all_pushed P n (m ∷ ns) h p = (h.0, all_pushed P n ns h.1 p)
+once_taken_out n (m ∷ ns) h = elim (not (m == n)) as (λ b. IsDistinct (◌==◌) (cond b (m ∷ without_number n ns) (without_number n ns))) [ true ↦ (recursion_from_All _ _ (All-filter (λ k. not (k == n)) (λ y. (m == y) ≡ false) ns (All-from_recursion _ ns h.0)), once_taken_out n ns h.1) | false ↦ once_taken_out n ns h.1 ]
 
 -- where a new number is put at the back
 pub once_pushed : (n : ℕ) (ns : List ℕ) → IsDistinct (◌==◌) ns → is_listed n ns ≡ false → IsDistinct (◌==◌) (ns ++ n ∷ [])
-unfolding IsDistinct
-once_pushed n [] h absent = (tt, tt)
-once_pushed n (m ∷ ns) h absent = go (once_pushed n ns h.1) (m == n) refl absent
-  where
-    go : (is_listed n ns ≡ false → IsDistinct (◌==◌) (ns ++ n ∷ [])) → (b : Bool) → (m == n) ≡ b → (b || is_listed n ns) ≡ false → AllByRecursion (λ y. (m == y) ≡ false) (ns ++ n ∷ []) × IsDistinct (◌==◌) (ns ++ n ∷ [])
-    go rest true e absent = cc
-    go rest false e absent = (all_pushed (λ y. (m == y) ≡ false) n ns h.0 e, rest absent)
+once_pushed n ns h absent = IsDistinct-push numbers_alike ns n h (turned n ns ∙ absent)
 
 -- where a number goes to the back
 pub once_moved : (n : ℕ) (ns : List ℕ) → IsDistinct (◌==◌) ns → IsDistinct (◌==◌) (number_to_back n ns)

@@ -5,10 +5,10 @@ use Rattle.std.specs.FinMap.{get}
 use Rattle.moka_parts.specs.declared.records.Record.{Record}
 use Rattle.moka_parts.specs.declared.records.Member.{Member}
 use Rattle.moka_parts.specs.Records.{is_settled, numbers_of, settled_members, total_weight}
-use Rattle.moka_parts.specs.State.{State, Contents}
-use Rattle.moka_parts.specs.Visibility.{SomeCovers, has_lapsed}
+use Rattle.moka_parts.specs.State.{State, Contents, keeps_write_list}
+use Rattle.moka_parts.specs.Visibility.{SomeCovers, NoneCovers, has_lapsed}
 use Rattle.moka_parts.specs.Candidates.{prefix}
-use Rattle.moka_parts.specs.Maintenance.{Choice, Freedom, Removes, MovesToBack, Drops, Terms, Course, is_timed, is_late, is_cut, after_choices, before_steps, at_end, tests_of}
+use Rattle.moka_parts.specs.Maintenance.{Choice, Freedom, Removes, MovesToBack, Drops, Terms, Course, is_timed, is_late, is_cut, after_choices, before_steps, at_end, kept_by_choices, tests_of}
 use Rattle.moka_parts.specs.Exact.{IsWithin}
 use Rattle.moka_parts.specs.Grounds.{AreDrops, FollowsGrounds, IsAtRestByRead, grounds_of}
 use Rattle.moka_parts.specs.Settling.{IsWhole, IsAllSent}
@@ -57,11 +57,12 @@ pub record IsBounded {K V X P W : Type 0} (says : P → K → V → Bool → Typ
   -- it ends with the first reading that is late
   pub ends : is_late terms.limit (take (length course.readings - 1) course.readings) ≡ false
   -- the steps of each pass stand in their order, each with its own grounds and causes, each but that of the timers is
-  -- made of at most a batch of choices, and those along the access list end as they are to; at last predicates are
-  -- dropped
+  -- made of at most a batch of choices, and those along the access list and the scan end as they are to; at last
+  -- predicates are dropped, and what is spared is covered by none that is left
   pub in_order : (taken dropped : List Choice) × (ch.steps ≡ taken ++ dropped) × AreDrops dropped
-      × FollowsGrounds (SomeCovers says s.predicates) (tests_of s terms.now) terms.batch (grounds_of course.passes)
-      (before_steps s ch) taken
+      × FollowsGrounds (SomeCovers says s.predicates) (tests_of s terms.now)
+      (NoneCovers says (kept_by_choices s.predicates dropped)) (keeps_write_list s.settings) terms.batch
+      (grounds_of course.passes) (before_steps s ch) taken
   -- without predicates its passes but the last make, together, at least a batch of choices for each of them
   pub full : s.predicates ≡ [] → (course.passes - 1) * terms.batch ≤ length ch.steps
   -- where the sweep by the last read ended, after some of the choices, and that of the surplus, after all

@@ -1,10 +1,11 @@
 -- The grounds on which a pass removes records: the cause that each tells, and their order.
-use Rattle.std.specs.Prelude.{◌≡◌, ℕ, zero, suc, Bool, true, false, ◌&&◌, ◌≤◌, ◌⊎◌, List, [], ◌∷◌, ◌++◌, length, Option, Some, None, if◌then◌else◌}
+use Rattle.std.specs.Prelude.{◌≡◌, ℕ, zero, suc, Bool, true, false, ◌&&◌, ◌==◌, ◌+◌, ◌≤◌, ◌⊎◌, List, [], ◌∷◌, ◌++◌, length, Option, Some, None, if◌then◌else◌}
 use Rattle.std.specs.FinMap.{get}
+use Rattle.std.specs.List.{IsDistinct}
 use Rattle.moka_parts.specs.declared.notification.RemovalCause.{RemovalCause}
 use Rattle.moka_parts.specs.declared.notification.RemovalCause.TheVariants.{Expired, Explicit, Size}
 use Rattle.moka_parts.specs.declared.records.Record.{Record}
-use Rattle.moka_parts.specs.Records.{is_member, is_settled, settled_members}
+use Rattle.moka_parts.specs.Records.{is_applied, is_listed, is_member, is_settled, settled_members, settled_numbers}
 use Rattle.moka_parts.specs.State.{Contents}
 use Rattle.moka_parts.specs.Visibility.{is_expired, is_written_before, is_read_before}
 use Rattle.moka_parts.specs.Exact.{IsWithin}
@@ -66,16 +67,30 @@ module _ {K V : Type 0} (q : Tests) where
   IsAtRestByRead c = (n : ℕ) (r : Record K V) → is_front n c.access ≡ true → get c.records n ≡ Some r
       → (is_past_read q r ≡ false) × (is_read_before q.invalid_before r ≡ false)
 
+-- `Spared` says which records no predicate covers
+module _ {K V : Type 0} (Spared : Record K V → Type 0) where
+  -- how far a scan went, whose choices are the removals of some that it passed
+  pub record EndsScan (batch choices : ℕ) (c : Contents K V) : Type 0 where
+    pub passed : List ℕ
+    pub once : IsDistinct (◌==◌) passed
+    -- no predicate covers a settled record among them
+    pub spared : (n : ℕ) (r : Record K V) → is_listed n passed ≡ true → get c.records n ≡ Some r → is_applied r ≡ true →
+        Spared r
+    -- it looked at a batch of settled records, those that it removed among them, or passed all members
+    pub used : (batch ≤ choices + length (settled_numbers c.records passed))
+        ⊎ ((n : ℕ) → is_member n c.access ≡ true → is_listed n passed ≡ true)
+
   -- where the step ended, if it went along the access list: it came to rest, or no member is settled, or it made all
-  -- its choices
-  abbrev pub EndsStep : Ground → ℕ → ℕ → Contents K V → Type 0
-  EndsStep ByTimer batch choices c = Unit {0}
-  EndsStep ByWrite batch choices c = Unit {0}
-  EndsStep ByRead batch choices c = IsAtRestByRead c
-      ⊎ ((settled_members c.records c.access ≡ []) ⊎ (batch ≤ choices))
-  EndsStep ByPredicate batch choices c = Unit {0}
-  EndsStep BySurplus batch choices c = IsWithin q.capacity c.access
-      ⊎ ((settled_members c.records c.access ≡ []) ⊎ (batch ≤ choices))
+  -- its choices. A scan goes along the order of writing, if that is kept
+  module _ (ordered : Bool) (q : Tests) where
+    abbrev pub EndsStep : Ground → ℕ → ℕ → Contents K V → Type 0
+    EndsStep ByTimer batch choices c = Unit {0}
+    EndsStep ByWrite batch choices c = Unit {0}
+    EndsStep ByRead batch choices c = IsAtRestByRead q c
+        ⊎ ((settled_members c.records c.access ≡ []) ⊎ (batch ≤ choices))
+    EndsStep ByPredicate batch choices c = ordered ≡ true → EndsScan batch choices c
+    EndsStep BySurplus batch choices c = IsWithin q.capacity c.access
+        ⊎ ((settled_members c.records c.access ≡ []) ⊎ (batch ≤ choices))
 
 -- `Covered` says which records are covered by a predicate
 module _ {K V : Type 0} (Covered : Record K V → Type 0) (q : Tests) where
@@ -99,12 +114,13 @@ module _ {K V : Type 0} (Covered : Record K V → Type 0) (q : Tests) where
   AreTaken g c [] = Unit {0}
   AreTaken g c (x ∷ xs) = MayTake g c x × AreTaken g (after_choice c x) xs
 
-  module _ (batch : ℕ) where
+  module _ (Spared : Record K V → Type 0) (ordered : Bool) (batch : ℕ) where
     -- the choices are those of these steps, one step after the other
     abbrev pub FollowsGrounds : List Ground → Contents K V → List Choice → Type 0
     FollowsGrounds [] c xs = xs ≡ []
     FollowsGrounds (g ∷ gs) c xs = (first later : List Choice) × (xs ≡ first ++ later) × AreTaken g c first
-        × ((is_batched g ≡ true → length first ≤ batch) × EndsStep q g batch (length first) (after_choices c first))
+        × ((is_batched g ≡ true → length first ≤ batch)
+        × EndsStep Spared ordered q g batch (length first) (after_choices c first))
         × FollowsGrounds gs (after_choices c first) later
 
 -- each choice drops a predicate

@@ -116,6 +116,10 @@ entered_by false n ns = ns
 abbrev pub is_settled : {K V : Type 0} → Records K V → ℕ → Bool
 is_settled records n = option_map_or is_applied (get records n) false
 
+-- those of the numbers whose records are settled
+abbrev pub settled_numbers : {K V : Type 0} → Records K V → List ℕ → List ℕ
+settled_numbers records ns = filter (λ n. is_settled records n) ns
+
 -- the settled members, in order
 abbrev pub settled_members : {K V : Type 0} → Records K V → List Member → List Member
 settled_members records members = filter (λ a. is_settled records a.number) members

@@ -15,14 +15,14 @@ pub struct Ticket(pub u64);
 /// What a get found. moka: `common::entry::Entry`.
 #[derive(Debug, Drop)]
 pub struct Entry<K, V> {
-    /// The record's key, where it was asked for.
+    /// The record's key, if it was asked for.
     pub key: Option<K>,
     /// A clone of the record's value.
     pub value: V,
 }
 
 impl<K, V> Entry<K, V> {
-    /// The record's key, where it was asked for.
+    /// The record's key, if it was asked for.
     pub fn key(&self) -> Option<&K>
         ensures { option_copied result ≡ self.now.key }
     {
@@ -127,11 +127,11 @@ pub enum Call<K, V, P> {
         /// How many entries each step of a pass looks at, except the step by entries' own expiries.
         batch: u32,
     },
-    /// Runs maintenance where the housekeeper says that it is due.
+    /// Runs maintenance if the housekeeper says that it is due.
     RunIfDue {
         now: Instant,
     },
-    /// From now on runs start by themselves only where more is left.
+    /// From now on runs start by themselves only if more is left.
     DisableAutoRun,
     /// Asks for the keys of a segment.
     Keys {
@@ -173,7 +173,7 @@ pub enum Reply<K, V, P> {
     Remove {
         /// What was taken out, with the ticket of the removal's operation.
         removed: Option<(KvEntry<K, V>, Ticket)>,
-        /// How notifying the listener went, where that was asked for and something was taken out.
+        /// How notifying the listener went, if that was asked for and something was taken out.
         told: Option<Result<(), OutOfMemory>>,
     },
     /// What was written or read before the moment is hidden.
@@ -184,7 +184,7 @@ pub enum Reply<K, V, P> {
     Run(bool),
     /// The run was made if it was due, and does not say what it left.
     RunIfDue,
-    /// Runs start by themselves only where more is left.
+    /// Runs start by themselves only if more is left.
     DisableAutoRun,
     /// Clones of all keys, hidden or not; `None` unless the segment is 0.
     Keys(Result<Option<Vec<K>>, OutOfMemory>),
@@ -212,7 +212,7 @@ pub enum Reply<K, V, P> {
     SetCapacity(Result<(), CapacityError>),
 }
 
-/// The calls come back where there is no room for their replies. None was made.
+/// The calls come back if there is no room for their replies. None was made.
 #[derive(Debug, Drop)]
 pub struct DriveRefused<K, V, P> {
     /// Why they were refused.

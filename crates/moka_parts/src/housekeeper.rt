@@ -14,11 +14,11 @@ const WRITE_LOG_FLUSH_POINT: usize = 64;
 /// How long maintenance waits after a run, in milliseconds.
 const LOG_SYNC_INTERVAL_MILLIS: u64 = 300;
 
-/// How often a run may go back to its queues, where a caller sets nothing else.
+/// How often a run may go back to its queues, unless a caller sets another number.
 /// moka: `common::concurrent::constants::MAX_LOG_SYNC_REPEATS`.
 pub const MAX_LOG_SYNC_REPEATS: u32 = 4;
 
-/// How many entries each step of a pass looks at, where a caller sets nothing else.
+/// How many entries each step of a pass looks at, unless a caller sets another number.
 /// moka: `common::concurrent::constants::EVICTION_BATCH_SIZE`.
 pub const EVICTION_BATCH_SIZE: u32 = 384;
 
@@ -173,7 +173,7 @@ impl Housekeeper {
         }
     }
 
-    /// Whether a run is due before another read is queued, where so many wait.
+    /// Whether a run is due before another read is queued, while `len` wait.
     #[inline(always)]
     pub fn should_apply_reads(&self, len: usize, now: Instant) -> bool
         ensures { result ≡ is_due self.now.housekeeping len now.0 }
@@ -184,7 +184,7 @@ impl Housekeeper {
         self.more_entries_to_evict || self.should_apply(len, READ_LOG_FLUSH_POINT, now)
     }
 
-    /// Whether a run is due where so many writes wait.
+    /// Whether a run is due while `len` writes wait.
     pub fn should_apply_writes(&self, len: usize, now: Instant) -> bool
         ensures { result ≡ is_due self.now.housekeeping len now.0 }
     {
@@ -199,7 +199,7 @@ impl Housekeeper {
         self.auto_run_enabled && (len >= flush_point || now >= self.run_after)
     }
 
-    /// Makes a run at a moment, and keeps its answer where a listener is set.
+    /// Makes a run at a moment, and keeps its answer if a listener is set.
     pub fn run_pending_tasks<T: InnerSync, C: Clock>(
         &mut self,
         cache: &mut T,
@@ -245,7 +245,7 @@ impl Housekeeper {
         true
     }
 
-    /// From now on runs start by themselves only where more is left.
+    /// From now on runs start by themselves only if more is left.
     pub fn disable_auto_run(&mut self)
         ensures { self.new
             ≡ record self.old { housekeeping = without_automatic self.old.housekeeping } }

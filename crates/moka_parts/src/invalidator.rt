@@ -36,7 +36,7 @@ pub trait IdSource {
 
 impl<P> Registered<P> {
     // Whether it was registered no earlier than the record was written, and says yes to it. The predicate is asked
-    // only where the moments allow it.
+    // only if the moments allow it.
     fn covers<K, V>(&self, entry: &RecordRef<'_, K, V>) -> bool
     where
         P: PredicateFn<K, V>,

@@ -14,7 +14,7 @@ use crate::invalidator::IdSource;
 use crate::notification::Listener;
 use crate::policy::Expiry;
 
-/// A get finds a value exactly where the key is contained, unless memory for a clone is refused: a get of `drive`, and
+/// A get finds a value exactly if the key is contained, unless memory for a clone is refused: a get of `drive`, and
 /// one of `BaseCache` from one write list to another.
 pub fn gets_what_is_contained<K: Eq, V, X: Expiry<K, V>, P: PredicateFn<K, V>, W>()
     ensures promised { GetsWhatIsContained {W = W} K.eq P.says X.read (PromisedRun P.says X.read) }
@@ -22,7 +22,7 @@ pub fn gets_what_is_contained<K: Eq, V, X: Expiry<K, V>, P: PredicateFn<K, V>, W
         → GetsWhatIsContained {W = W} K.eq P.says X.read (ListedRun P.says X.read before after) }
 {}
 
-/// A key that is hidden stays so until it is inserted again, where moments never go back.
+/// A hidden key stays hidden until it is inserted again, if moments never go back, nor that of `invalidate_all`.
 pub fn stays_hidden<
     K: Eq,
     V,
@@ -71,7 +71,7 @@ pub fn peeks_quietly<K: Eq, V, X: Expiry<K, V>, P: PredicateFn<K, V>, W>()
     ensures { PeeksQuietly W K.eq P.says X.read }
 {}
 
-/// Where a listener is set, it is notified exactly once of each value that leaves the map other than by a caller's
+/// If a listener is set, it is notified exactly once of each value that leaves the map other than by a caller's
 /// removal.
 pub fn tells_each_once<
     K: Eq,
@@ -105,7 +105,7 @@ pub fn stays_valid<
     ensures { StaysValid (meaning_of K.eq L.tells P.says W.weighs C.reads I.gives X.created X.read X.updated) }
 {}
 
-/// Where the write list is kept, calls in the order of time keep a state in the order of writing.
+/// If the write list is kept, calls in the order of time keep a state in the order of writing.
 pub fn stays_in_order<
     K: Eq,
     V,
@@ -129,13 +129,13 @@ pub fn counts_nearly<K: Eq, V, X, P: PredicateFn<K, V>, W>()
     ensures { CountsNearly X W K.eq P.says }
 {}
 
-/// Where weight is the only ground for a removal, a run that ends within the capacity removes just enough from the
+/// If weight is the only ground for a removal, a run that ends within the capacity removes just enough from the
 /// least recently used end.
 pub fn removes_enough<K, V, X, P: PredicateFn<K, V>, W>()
     ensures { (s : State K V X P W) (now : ℕ) (free : Freedom) → RemovesEnough P.says s now free }
 {}
 
-/// Where weight is the only ground for a removal, a run removes the least recently used first.
+/// If weight is the only ground for a removal, a run removes the least recently used first.
 pub fn removes_first<K, V, X, P: PredicateFn<K, V>, W>()
     ensures { (s : State K V X P W) (now : ℕ) (free : Freedom) → RemovesFirst P.says s now free }
 {}
@@ -199,7 +199,7 @@ pub fn sends_after_run<K, V, X: Expiry<K, V>, P: PredicateFn<K, V>, W>()
     ensures { SendsAfterRun W P.says X.read }
 {}
 
-/// Where the write list is kept, a call in the order of time keeps a state in the order of writing, with the write list
+/// If the write list is kept, a call in the order of time keeps a state in the order of writing, with the write list
 /// that the call leaves.
 pub fn calls_keep_order<
     K: Eq,
@@ -214,7 +214,7 @@ pub fn calls_keep_order<
     ensures { CallsKeepOrder (meaning_of K.eq L.tells P.says W.weighs C.reads I.gives X.created X.read X.updated) }
 {}
 
-/// Where the write list is kept, a list of calls in the order of time keeps a state in the order of writing, with the
+/// If the write list is kept, a list of calls in the order of time keeps a state in the order of writing, with the
 /// write list that the last of them leaves.
 pub fn lists_keep_order<
     K: Eq,

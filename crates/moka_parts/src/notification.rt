@@ -8,7 +8,7 @@ use std::marker::Model;
 pub enum RemovalCause {
     /// The entry's time was over.
     Expired,
-    /// The entry was invalidated by a caller.
+    /// The entry was removed or invalidated by a caller.
     Explicit,
     /// The value was replaced by a caller; the entry itself stays.
     Replaced,

@@ -181,11 +181,11 @@ pub trait Expiry<K, V> {
 
     ghost updated: { Self → K → V → ℕ → Option ℕ → Option ℕ } = { λ _ _ _ _ left. left };
 
-    /// How long an entry lasts that is created now, or `None` where it does not expire by itself.
+    /// How long an entry that is created now lasts, or `None` if it does not expire by itself.
     fn expire_after_create(&self, key: &K, value: &V, created_at: Instant) -> Option<Duration>
         ensures { option_map as_nanos result ≡ created self.now key.now value.now created_at.0 };
 
-    /// How long an entry lasts after a read, where `duration_until_expiry` is what it has left.
+    /// How long an entry lasts after a read; `duration_until_expiry` is what it has left.
     fn expire_after_read(
         &self,
         key: &K,
@@ -198,7 +198,7 @@ pub trait Expiry<K, V> {
             ≡ read self.now key.now value.now read_at.0
             (option_map as_nanos duration_until_expiry) last_modified_at.0 };
 
-    /// How long an entry lasts after its value was replaced, where `duration_until_expiry` is what
+    /// How long an entry lasts after its value was replaced; `duration_until_expiry` is what
     /// it has left.
     fn expire_after_update(
         &self,

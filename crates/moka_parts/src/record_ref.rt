@@ -8,7 +8,7 @@ use crate::policy::Instant;
 use crate::records::Record;
 use std::marker::Model;
 
-/// What look-ups read of a record, also where it has a time to live.
+/// What look-ups read of a record, also if there is a time to live.
 #[derive(Drop)]
 pub struct Hot<K, V> {
     /// The key of the first insert.

@@ -4,7 +4,6 @@ use Rattle.std.specs.FinMap.{get, insert, remove}
 use Rattle.std.proofs.lemmas.Option.{same_Some}
 use Rattle.moka_parts.specs.declared.records.Record.{Record}
 use Rattle.moka_parts.specs.declared.calls.Call.{Call}
-use Rattle.moka_parts.specs.declared.calls.Call.TheVariants as call
 use Rattle.moka_parts.specs.declared.calls.Reply.{Reply}
 use Rattle.moka_parts.specs.Listed.{ListedRun, AreListedSteps}
 use Rattle.moka_parts.specs.Maintenance.{Terms, Course}
@@ -19,7 +18,7 @@ use Rattle.moka_drive.specs.Synchronous.{Made}
 use Rattle.moka_drive.proofs.Keeping.{listed_run_keeps}
 use Rattle.moka_engine.specs.Config.{Config}
 use Rattle.moka_segments.specs.Built.{IsNew}
-use Rattle.moka_segments.specs.Keys.{EachKey, HoldNone, InsertsOnly, KeysBelong}
+use Rattle.moka_segments.specs.Keys.{EachKey, HoldNone, InsertsOne, InsertsOnly, KeysBelong}
 use Rattle.moka_segments.specs.Routing.{Routing}
 use Rattle.moka_segments.specs.Segmented.{Segmented}
 
@@ -50,11 +49,11 @@ module _ {K V X L P W C I : Type 0} (m : Meaning K V X L P W C I) (Runs : State 
   abbrev AreThese : State K V X P W → Type 0
   AreThese s = EachKey Is s.records
 
-  keys_stay : (s : State K V X P W) (c : Call K V P) → InsertsOnly Is (c ∷ []) → AreThese s → IsKept m AreThese AreThese s c
+  keys_stay : (s : State K V X P W) (c : Call K V P) → InsertsOne Is c → AreThese s → IsKept m AreThese AreThese s c
   keys_stay s c here held = record {
     begins = held;
     left = held;
-    inserted = λ key hash value now w is enabled absent. keys_put Is s.records held s.next_number _ (subst (λ c. InsertsOnly Is (c ∷ [])) is here).0;
+    inserted = λ key hash value now w is enabled absent. keys_put Is s.records held s.next_number _ (subst (InsertsOne Is) is here);
     replaced = λ r key hash value now w is found. keys_put Is s.records held r.number _ (key_found Is s.records held m.eq key r found);
     removed = λ key hash now r is found. keys_kept Is s.records held (remove s.records r.number) (keeps_remove s.records r.number);
     sent = λ ticket o is there room. held;
@@ -66,36 +65,15 @@ module _ {K V X L P W C I : Type 0} (m : Meaning K V X L P W C I) (Runs : State 
   }
 
   -- a call, of which each key that it inserts is one of these
-  pub keys_of_call : (s t : State K V X P W) (c : Call K V P) (r : Reply K V P) (e : Events K V) → InsertsOnly Is (c ∷ []) → EachKey Is s.records → CallStep m Runs s c r e t → EachKey Is t.records
+  pub keys_of_call : (s t : State K V X P W) (c : Call K V P) (r : Reply K V P) (e : Events K V) → InsertsOne Is c → EachKey Is s.records → CallStep m Runs s c r e t → EachKey Is t.records
   keys_of_call s t c r e here held step =
       kept_by_call m Runs AreThese AreThese (λ from terms course notices mid held run. keys_kept Is from.records held mid.records (runs from terms course notices mid run)) s t c r e (keys_stay s c here held) step
-
--- what the first call inserts, and the others
-first_only : {K V P : Type 0} (Is : K → Type 0) (c : Call K V P) (calls : List (Call K V P)) → InsertsOnly Is (c ∷ calls) → InsertsOnly Is (c ∷ []) × InsertsOnly Is calls
-first_only Is (call.Insert key hash value now) calls (here, rest) = ((here, tt), rest)
-first_only Is (call.Send ticket) calls rest = (tt, rest)
-first_only Is (call.Get key hash need_key now) calls rest = (tt, rest)
-first_only Is (call.GetUnrecorded key hash now) calls rest = (tt, rest)
-first_only Is (call.Contains key hash now) calls rest = (tt, rest)
-first_only Is (call.Key key hash) calls rest = (tt, rest)
-first_only Is (call.Scan key now) calls rest = (tt, rest)
-first_only Is (call.Remove key hash now) calls rest = (tt, rest)
-first_only Is (call.InvalidateAll now) calls rest = (tt, rest)
-first_only Is (call.InvalidateIf predicate now) calls rest = (tt, rest)
-first_only Is (call.Run now limit repeats batch) calls rest = (tt, rest)
-first_only Is (call.RunIfDue now) calls rest = (tt, rest)
-first_only Is call.DisableAutoRun calls rest = (tt, rest)
-first_only Is (call.Keys segment) calls rest = (tt, rest)
-first_only Is call.Report calls rest = (tt, rest)
-first_only Is call.Pending calls rest = (tt, rest)
-first_only Is (call.SetCapacity capacity) calls rest = (tt, rest)
 
 module _ {K V X L P W C : Type 0} (m : Meaning K V X L P W C (Unit {0})) (Is : K → Type 0) where
   keys_of_steps : (s : State K V X P W) (before last : List ℕ) (xs : List (Step K V X P W)) → InsertsOnly Is (calls_of xs) → EachKey Is s.records → AreListedSteps m s before xs last → EachKey Is (last_state s xs).records
   keys_of_steps s before last [] only held steps = held
   keys_of_steps s before last (x ∷ xs) only held (after, step, rest) =
-      let (here, there) = first_only Is x.call (calls_of xs) only in
-      keys_of_steps x.after after last xs there (keys_of_call m (ListedRun m.says m.read before after) (listed_run_keeps m.says m.read before after) Is s x.after x.call x.reply x.events here held step.0) rest
+      keys_of_steps x.after after last xs only.1 (keys_of_call m (ListedRun m.says m.read before after) (listed_run_keeps m.says m.read before after) Is s x.after x.call x.reply x.events only.0 held step.0) rest
 
 module _ {K V S X L P W C : Type 0} (m : Meaning K V X L P W C (Unit {0})) (Is : K → Type 0) where
   -- whatever calls were made

@@ -1,5 +1,6 @@
 -- The cache's own calls are moves of its segments.
-use Rattle.std.proofs.Common.{◌≡◌, refl, ℕ, suc, Bool, List, [], ◌∷◌, map, Option, Some, Result, Ok, Err, ◌⊎◌, inl, inr, ap, sym, subst, arith}
+use Rattle.std.proofs.Common.{◌≡◌, refl, ℕ, suc, Bool, List, [], ◌∷◌, ◌++◌, length, Option, Some, Result, Ok, Err, ◌⊎◌, inl, inr, sym, subst, append_assoc, length-append, arith}
+use Rattle.std.proofs.lemmas.List.{get_or_at, set_at}
 use Rattle.std.specs.List.{AllZip}
 use Rattle.uuid.specs.declared.Uuid.{Uuid}
 use Rattle.moka_parts.specs.declared.calls.Call.{Call}
@@ -29,10 +30,6 @@ use Rattle.moka_segments.specs.Steps.{Inserts, Gets, Removes, GetsWith, GetsWith
 use Rattle.moka_segments.specs.Whole.{AllRan, Hides}
 use Rattle.moka_segments.proofs.ForAllCalls.{made_with_ids, made_for_all}
 
--- the same moves of a cache with one more segment before the others
-abbrev up : {K V P : Type 0} → List (Move K V P) → List (Move K V P)
-up moves = map (λ v. record { index = suc v.index; calls = v.calls; replies = v.replies }) moves
-
 -- ---- moves after moves
 
 module _ {K V S X L P W C : Type 0} (m : Meaning K V X L P W C (Unit {0})) where
@@ -60,59 +57,34 @@ module _ {K V S X L P W C : Type 0} (m : Meaning K V X L P W C (Unit {0})) where
   -- each segment made calls that fit, one segment after the other
   abbrev pub EachMakes : (List (Call K V P) → List (Reply K V P) → Type 0) → C → C → List (Synchronous K V S X L P W) → List (Synchronous K V S X L P W) → Type 0
   EachMakes Fit clock clock_after [] [] = clock_after ≡ clock
-  EachMakes Fit clock clock_after [] (y ∷ ys) = ⊥
-  EachMakes Fit clock clock_after (x ∷ xs) [] = ⊥
   EachMakes Fit clock clock_after (x ∷ xs) (y ∷ ys) = (between : C) × Makes m Fit x.engine clock y.engine between × EachMakes Fit between clock_after xs ys
+  EachMakes Fit clock clock_after xs ys = ⊥
 
-  -- a cache with one more segment before the others
-  abbrev on : Synchronous K V S X L P W → Segmented K V S X L P W → Segmented K V S X L P W
-  on z c = record { routing = c.routing; segments = z ∷ c.segments }
-
-  up_steps : (z : Synchronous K V S X L P W) (index : ℕ) (Step : Synchronous K V S X L P W → Synchronous K V S X L P W → Type 0) (old new : Segmented K V S X L P W) → Steps index Step old new → Steps (suc index) Step (on z old) (on z new)
-  up_steps z index Step old new steps = record {
-    routing = steps.routing;
-    one = record {
-      before = steps.one.before;
-      after = steps.one.after;
-      there = record { within = omega (arith, steps.one.there.within); is = steps.one.there.is };
-      step = steps.one.step;
-      others = ap (λ zs. z ∷ zs) steps.one.others;
-    };
-  }
-
-  up_moves : (z : Synchronous K V S X L P W) (moves : List (Move K V P)) (clock clock_after : C) (old new : Segmented K V S X L P W) → MoveAfterMove m moves clock old clock_after new → MoveAfterMove m (up moves) clock (on z old) clock_after (on z new)
-  up_moves z [] clock clock_after old new moved = (moved.0, ap (on z) moved.1)
-  up_moves z (v ∷ vs) clock clock_after old new (between, meanwhile, move, rest) = (on z between, meanwhile, up_steps z v.index _ old between move, up_moves z vs meanwhile clock_after between new rest)
-
-  up_fits : (Fit : List (Call K V P) → List (Reply K V P) → Type 0) (index : ℕ) (xs : List (Synchronous K V S X L P W)) (moves : List (Move K V P)) → AreOneEach Fit index xs moves → AreOneEach Fit (suc index) xs (up moves)
-  up_fits Fit index [] [] fits = fits
-  up_fits Fit index [] (v ∷ vs) fits = absurd fits
-  up_fits Fit index (x ∷ xs) [] fits = absurd fits
-  up_fits Fit index (x ∷ xs) (v ∷ vs) (is, fit, fits) = (ap suc is, fit, up_fits Fit (suc index) xs vs fits)
-
-  moves_each : (Fit : List (Call K V P) → List (Reply K V P) → Type 0) (routing : Routing S) (clock clock_after : C) (xs ys : List (Synchronous K V S X L P W)) → EachMakes Fit clock clock_after xs ys
-      → MovesBy m (AreOneEach Fit 0 xs) clock (record { routing = routing; segments = xs }) clock_after (record { routing = routing; segments = ys })
-  moves_each Fit routing clock clock_after [] [] same = ([], tt, (same, refl))
-  moves_each Fit routing clock clock_after [] (y ∷ ys) each = absurd each
-  moves_each Fit routing clock clock_after (x ∷ xs) [] each = absurd each
-  moves_each Fit routing clock clock_after (x ∷ xs) (y ∷ ys) (between, (calls, replies, fit, made), rest) =
-      let (vs, fits, moved) = moves_each Fit routing between clock_after xs ys rest in
-      let v : Move K V P = record { index = 0; calls = calls; replies = replies } in (
-        v ∷ up vs,
-        (refl, fit, up_fits Fit 0 xs vs fits),
+  -- each segment behind those that are done
+  moves_each : (Fit : List (Call K V P) → List (Reply K V P) → Type 0) (routing : Routing S) (done : List (Synchronous K V S X L P W)) (clock clock_after : C) (xs ys : List (Synchronous K V S X L P W)) → EachMakes Fit clock clock_after xs ys
+      → MovesBy m (AreOneEach Fit (length done) xs) clock (record { routing = routing; segments = done ++ xs }) clock_after (record { routing = routing; segments = done ++ ys })
+  moves_each Fit routing done clock clock_after [] [] same = ([], tt, (same, refl))
+  moves_each Fit routing done clock clock_after (x ∷ xs) (y ∷ ys) (between, (calls, replies, fit, made), rest) =
+      let (vs, fits, moved) = moves_each Fit routing (done ++ y ∷ []) between clock_after xs ys rest in
+      let v : Move K V P = record { index = length done; calls = calls; replies = replies } in
+      let one_more : length (done ++ y ∷ []) ≡ suc (length done) = omega (arith, length-append done (y ∷ [])) in
+      let from = subst (λ zs. MoveAfterMove {S = S} m vs between (record { routing = routing; segments = zs }) clock_after (record { routing = routing; segments = (done ++ y ∷ []) ++ ys })) (append_assoc done (y ∷ []) xs) moved in (
+        v ∷ vs,
+        (refl, fit, subst (λ n. AreOneEach Fit n xs vs) one_more fits),
         (
-          record { routing = routing; segments = y ∷ xs },
+          record { routing = routing; segments = done ++ y ∷ xs },
           between,
-          record { routing = refl; one = record { before = x; after = y; there = record { within = omega arith; is = λ d. refl }; step = made; others = refl } },
-          up_moves y vs between clock_after (record { routing = routing; segments = xs }) (record { routing = routing; segments = ys }) moved,
+          record { routing = refl; one = record { before = x; after = y; there = record { within = omega (arith, length-append done (x ∷ xs)); is = λ d. get_or_at done x xs d (length done) refl }; step = made; others = sym (set_at done x xs y (length done) refl) } },
+          subst (λ zs. MoveAfterMove {S = S} m vs between (record { routing = routing; segments = done ++ y ∷ xs }) clock_after (record { routing = routing; segments = zs })) (append_assoc done (y ∷ []) ys) from,
         ),
       )
+  moves_each Fit routing done clock clock_after xs ys each = absurd each
 
   -- of a whole cache
   pub moves_all : (Fit : List (Call K V P) → List (Reply K V P) → Type 0) (clock clock_after : C) (old new : Segmented K V S X L P W) → new.routing ≡ old.routing → EachMakes Fit clock clock_after old.segments new.segments
       → MovesBy m (AreOneEach Fit 0 old.segments) clock old clock_after new
   moves_all Fit clock clock_after old new same each =
-      subst (λ (r : Routing S). MovesBy m (AreOneEach Fit 0 old.segments) clock old clock_after (record { routing = r; segments = new.segments })) (sym same) (moves_each Fit old.routing clock clock_after old.segments new.segments each)
+      subst (λ (r : Routing S). MovesBy m (AreOneEach Fit 0 old.segments) clock old clock_after (record { routing = r; segments = new.segments })) (sym same) (moves_each Fit old.routing [] clock clock_after old.segments new.segments each)
 
 -- ---- the calls
 
@@ -157,8 +129,6 @@ module _ {K V S X L P W C : Type 0} (m : Meaning K V X L P W C (Unit {0})) (is_k
   module _ {I : Type 0} (gives : I → Uuid → I → Type 0) (Given : P → Type 0) (now : Instant) (clock : C) where
     each_registers : (given : List Uuid) (result : Result (Unit {0}) (PredicateRefused P)) (ids ids_after : I) (xs ys : List (Synchronous K V S X L P W)) → AllRegister m.tells gives Given now given result ids ids_after xs ys → EachMakes (for_all_calls is_key_clone is_clone m) (MayRegister Given now) clock clock xs ys
     each_registers given result ids ids_after [] [] all = refl
-    each_registers given result ids ids_after [] (y ∷ ys) all = absurd all
-    each_registers given result ids ids_after (x ∷ xs) [] all = absurd all
     each_registers given result ids ids_after (x ∷ xs) (y ∷ ys) (inl (id, others, between, is, one, all)) = (clock, registered gives Given now (Ok id) ids between x y clock one, each_registers others result between ids_after xs ys all)
     each_registers given result ids ids_after (x ∷ xs) (y ∷ ys) (inr (refused, none, is, left, why)) =
         (clock, first why, subst (EachMakes (for_all_calls is_key_clone is_clone m) (MayRegister Given now) clock clock xs) (sym left) (none_asked (MayRegister Given now) (inl (refl, refl)) clock xs))
@@ -166,21 +136,20 @@ module _ {K V S X L P W C : Type 0} (m : Meaning K V X L P W C (Unit {0})) (is_k
         first : (Registers m.tells gives Given now (Err refused) ids ids_after x y ⊎ HasNoRoom m.tells gives Given now refused ids ids_after x y) → Makes (for_all_calls is_key_clone is_clone m) (MayRegister Given now) x.engine clock y.engine clock
         first (inl registers) = registered gives Given now (Err refused) ids ids_after x y clock registers
         first (inr none) = subst (λ (z : Synchronous K V S X L P W). Makes (for_all_calls is_key_clone is_clone m) (MayRegister Given now) x.engine clock z.engine clock) (sym none.unchanged) (not_asked (MayRegister Given now) (inl (refl, refl)) x clock)
+    each_registers given result ids ids_after xs ys all = absurd all
 
   each_hides : (now : Instant) (clock : C) (xs ys : List (Synchronous K V S X L P W)) → AllZip (Hides m.tells now) xs ys → EachMakes (for_all_calls is_key_clone is_clone m) (Just (call.InvalidateAll now) reply.InvalidateAll) clock clock xs ys
   each_hides now clock [] [] all = refl
-  each_hides now clock [] (y ∷ ys) all = absurd all
-  each_hides now clock (x ∷ xs) [] all = absurd all
   each_hides now clock (x ∷ xs) (y ∷ ys) (hides, all) =
       let made = made_one m x.engine y.engine clock clock (call.InvalidateAll now) reply.InvalidateAll no_events (hides.step, refl) hides.events refl refl tt in
       (clock, (call.InvalidateAll now ∷ [], reply.InvalidateAll ∷ [], (refl, refl), made_for_all m is_key_clone is_clone _ _ x.engine y.engine clock clock made), each_hides now clock xs ys all)
+  each_hides now clock xs ys all = absurd all
 
   each_ran : (now : Instant) (clock : C) (more : Bool) (clock_after : C) (xs ys : List (Synchronous K V S X L P W)) → AllRan m now clock more clock_after xs ys → EachMakes (for_all_calls is_key_clone is_clone m) (λ calls replies. (left : Bool) × Just (own_run now) (reply.Run left) calls replies) clock clock_after xs ys
   each_ran now clock more clock_after [] [] all = all.1
-  each_ran now clock more clock_after [] (y ∷ ys) all = absurd all
-  each_ran now clock more clock_after (x ∷ xs) [] all = absurd all
   each_ran now clock more clock_after (x ∷ xs) (y ∷ ys) (first, between, rest, one, others, told) =
       (between, makes_wide (Just (own_run now) (reply.Run first)) _ (λ calls replies fit. (first, fit)) x.engine y.engine clock between one.made, each_ran now between rest clock_after xs ys others)
+  each_ran now clock more clock_after xs ys all = absurd all
 
   pub calls_of_all : CallsOfAllAreMoves S m is_key_clone is_clone
   calls_of_all = record {
@@ -196,55 +165,45 @@ module _ {K V S X L P W C : Type 0} (hash_of : S → K → ℕ) (m : Meaning K V
   abbrev among : Meaning K V X L P W C (Unit {0})
   among = for_all_calls is_key_clone is_clone m
 
+  -- a call by key whose step makes calls that fit
+  by_key : (key : K) (clock clock_after : C) (Step : Synchronous K V S X L P W → Synchronous K V S X L P W → Type 0) (Fit : ℕ → List (Call K V P) → List (Reply K V P) → Type 0) → ((x y : Synchronous K V S X L P W) → Step x y → Makes among (Fit (hash_of x.engine.hasher key)) x.engine clock y.engine clock_after)
+      → IsMoveBy {S = S} hash_of m is_key_clone is_clone key clock clock_after Step Fit
+  by_key key clock clock_after Step Fit makes old new steps = moves_one among (segment_of old.routing.count (hash_of old.routing.hasher key)) Step (λ hasher. Fit (hash_of hasher key)) clock clock_after old new makes steps
+
   -- a removal, of which clones are told
-  removes : (key : K) (now : Instant) (clock clock_after : C) (Answers : Option (V × Result (Unit {0}) OutOfMemory) → Type 0) → IsMoveBy {S = S} hash_of m is_key_clone is_clone key clock clock_after (Removes m hash_of key now clock clock_after is_key_clone is_clone Answers)
+  pub removes : (key : K) (now : Instant) (clock clock_after : C) (Answers : Option (V × Result (Unit {0}) OutOfMemory) → Type 0) → IsMoveBy {S = S} hash_of m is_key_clone is_clone key clock clock_after (Removes m hash_of key now clock clock_after is_key_clone is_clone Answers)
       (λ hash calls replies. (taken : Option (V × Result (Unit {0}) OutOfMemory)) × Answers taken × RemovesEntry key hash now taken calls replies)
-  removes key now clock clock_after Answers old new steps =
-      moves_one among (segment_of old.routing.count (hash_of old.routing.hasher key)) (Removes m hash_of key now clock clock_after is_key_clone is_clone Answers) (λ hasher calls replies. (taken : Option (V × Result (Unit {0}) OutOfMemory)) × Answers taken × RemovesEntry key (hash_of hasher key) now taken calls replies) clock clock_after old new
+  removes key now clock clock_after Answers =
+      by_key key clock clock_after (Removes m hash_of key now clock clock_after is_key_clone is_clone Answers) (λ hash calls replies. (taken : Option (V × Result (Unit {0}) OutOfMemory)) × Answers taken × RemovesEntry key hash now taken calls replies)
       (λ x y step. (
       let (taken, answers, (calls, replies, fit, made)) = step.made in
       (calls, replies, (taken, answers, fit), made_with_ids m is_key_clone is_clone calls replies x.engine y.engine clock clock_after made)
       ))
-      steps
 
   pub calls_by_key : CallsByKeyAreMoves hash_of m is_key_clone is_clone
   calls_by_key = record {
-    insert = λ key now clock clock_after value result old new steps.
-        moves_one among (segment_of old.routing.count (hash_of old.routing.hasher key)) (Inserts m hash_of key now clock clock_after value result) (λ hasher. InsertsEntry key (hash_of hasher key) value now result) clock clock_after old new
-        (λ x y step. makes_wide m is_key_clone is_clone (InsertsEntry key (hash_of x.engine.hasher key) value now result) _ (λ calls replies fit. fit) x.engine y.engine clock clock_after step.made) steps;
-    get = λ key now clock clock_after result old new steps.
-        moves_one among (segment_of old.routing.count (hash_of old.routing.hasher key)) (Gets m hash_of key now clock clock_after is_clone result) (λ hasher calls replies. (own : Result (Option V) OutOfMemory) × IsCopiedAnswer is_clone own result × GetsValue key (hash_of hasher key) now own calls replies) clock clock_after old new
-        (λ x y step. makes_wide m is_key_clone is_clone (GetsValue key (hash_of x.engine.hasher key) now step.made.0) _ (λ calls replies fit. (step.made.0, step.made.1, fit)) x.engine y.engine clock clock_after step.made.2) steps;
+    insert = λ key now clock clock_after value result. by_key key clock clock_after (Inserts m hash_of key now clock clock_after value result) (λ hash. InsertsEntry key hash value now result)
+        (λ x y step. makes_wide m is_key_clone is_clone (InsertsEntry key (hash_of x.engine.hasher key) value now result) _ (λ calls replies fit. fit) x.engine y.engine clock clock_after step.made);
+    get = λ key now clock clock_after result. by_key key clock clock_after (Gets m hash_of key now clock clock_after is_clone result) (λ hash calls replies. (own : Result (Option V) OutOfMemory) × IsCopiedAnswer is_clone own result × GetsValue key hash now own calls replies)
+        (λ x y step. makes_wide m is_key_clone is_clone (GetsValue key (hash_of x.engine.hasher key) now step.made.0) _ (λ calls replies fit. (step.made.0, step.made.1, fit)) x.engine y.engine clock clock_after step.made.2);
     remove = λ key now clock clock_after result. removes key now clock clock_after (λ taken. result ≡ removed taken);
     invalidate = λ key now clock clock_after result. removes key now clock clock_after (λ taken. result ≡ invalidated taken);
   }
 
   pub get_with : {M : Type 0} (makes : M → V → Type 0) → GetWithIsMove hash_of m is_key_clone is_clone makes
-  get_with makes key now clock clock_after init result old new steps =
-      moves_one among (segment_of old.routing.count (hash_of old.routing.hasher key)) (GetsWith m hash_of key now clock clock_after is_clone (makes init) result)
-      (λ hasher calls replies. (made : Option V) × (own : Result V (Option (InsertRefused K V))) × ((value : V) → made ≡ Some value → makes init value) × HandsOutMade is_clone key own result × GetsOrInserts key (hash_of hasher key) now made own calls replies) clock clock_after old new
-      (λ x y step. (
-      let (made, own, (is, hands, calls, counted, given, back)) = step in
-      makes_wide m is_key_clone is_clone (GetsOrInserts key (hash_of x.engine.hasher key) now made own) _ (λ calls replies fit. (made, own, is, hands, fit)) x.engine y.engine clock clock_after calls
-      ))
-      steps
+  get_with makes key now clock clock_after init result =
+      by_key key clock clock_after (GetsWith m hash_of key now clock clock_after is_clone (makes init) result)
+      (λ hash calls replies. (made : Option V) × (own : Result V (Option (InsertRefused K V))) × ((value : V) → made ≡ Some value → makes init value) × HandsOutMade is_clone key own result × GetsOrInserts key hash now made own calls replies)
+      (λ x y (made, own, (is, hands, calls, counted, given, back)). makes_wide m is_key_clone is_clone (GetsOrInserts key (hash_of x.engine.hasher key) now made own) _ (λ calls replies fit. (made, own, is, hands, fit)) x.engine y.engine clock clock_after calls)
 
   pub get_with_if_made : {M : Type 0} (makes : M → Option V → Type 0) → GetWithIfMadeIsMove hash_of m is_key_clone is_clone makes
-  get_with_if_made makes key now clock clock_after init result old new steps =
-      moves_one among (segment_of old.routing.count (hash_of old.routing.hasher key)) (GetsWithIfMade m hash_of key now clock clock_after is_clone (makes init) result)
-      (λ hasher calls replies. (made : Option (Option V)) × (own : Result (Option V) (Option (InsertRefused K V))) × ((answer : Option V) → made ≡ Some answer → makes init answer) × HandsOutIfMade is_clone key own result × GetsOrInsertsIfMade key (hash_of hasher key) now made own calls replies) clock clock_after old new
-      (λ x y step. (
-      let (made, own, (is, hands, calls, counted, given, back)) = step in
-      makes_wide m is_key_clone is_clone (GetsOrInsertsIfMade key (hash_of x.engine.hasher key) now made own) _ (λ calls replies fit. (made, own, is, hands, fit)) x.engine y.engine clock clock_after calls
-      ))
-      steps
+  get_with_if_made makes key now clock clock_after init result =
+      by_key key clock clock_after (GetsWithIfMade m hash_of key now clock clock_after is_clone (makes init) result)
+      (λ hash calls replies. (made : Option (Option V)) × (own : Result (Option V) (Option (InsertRefused K V))) × ((answer : Option V) → made ≡ Some answer → makes init answer) × HandsOutIfMade is_clone key own result × GetsOrInsertsIfMade key hash now made own calls replies)
+      (λ x y (made, own, (is, hands, calls, counted, given, back)). makes_wide m is_key_clone is_clone (GetsOrInsertsIfMade key (hash_of x.engine.hasher key) now made own) _ (λ calls replies fit. (made, own, is, hands, fit)) x.engine y.engine clock clock_after calls)
 
   pub get_with_if_no_error : {M E : Type 0} (makes : M → Result V E → Type 0) → GetWithIfNoErrorIsMove hash_of m is_key_clone is_clone makes
-  get_with_if_no_error {E = E} makes key now clock clock_after init result old new steps =
-      moves_one among (segment_of old.routing.count (hash_of old.routing.hasher key)) (GetsWithIfNoError m hash_of key now clock clock_after is_clone (makes init) result)
-      (λ hasher calls replies. (made : Option (Result V E)) × (own : Result (Result V E) (Option (InsertRefused K V))) × ((answer : Result V E) → made ≡ Some answer → makes init answer) × HandsOutIfNoError is_clone key own result × GetsOrInsertsIfNoError key (hash_of hasher key) now made own calls replies) clock clock_after old new
-      (λ x y step. (
-      let (made, own, (is, hands, calls, counted, given, back)) = step in
-      makes_wide m is_key_clone is_clone (GetsOrInsertsIfNoError key (hash_of x.engine.hasher key) now made own) _ (λ calls replies fit. (made, own, is, hands, fit)) x.engine y.engine clock clock_after calls
-      ))
-      steps
+  get_with_if_no_error {E = E} makes key now clock clock_after init result =
+      by_key key clock clock_after (GetsWithIfNoError m hash_of key now clock clock_after is_clone (makes init) result)
+      (λ hash calls replies. (made : Option (Result V E)) × (own : Result (Result V E) (Option (InsertRefused K V))) × ((answer : Result V E) → made ≡ Some answer → makes init answer) × HandsOutIfNoError is_clone key own result × GetsOrInsertsIfNoError key hash now made own calls replies)
+      (λ x y (made, own, (is, hands, calls, counted, given, back)). makes_wide m is_key_clone is_clone (GetsOrInsertsIfNoError key (hash_of x.engine.hasher key) now made own) _ (λ calls replies fit. (made, own, is, hands, fit)) x.engine y.engine clock clock_after calls)

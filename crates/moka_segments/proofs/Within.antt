@@ -22,11 +22,10 @@ module _ {K V S X L P W C : Type 0} (m : Meaning K V X L P W C (Unit {0})) (now 
 
   sum_within : (clock : C) (more : Bool) (clock_after : C) (xs ys : List (Synchronous K V S X L P W)) → AllRan m now clock more clock_after xs ys → (whole : ℕ) → whole_capacity ys ≡ Some whole → sum_by (λ (s : Synchronous K V S X L P W). s.engine.state.weight) ys ≤ whole
   sum_within clock more clock_after [] [] ran whole is = omega arith
-  sum_within clock more clock_after [] (y ∷ ys) ran whole is = absurd ran
-  sum_within clock more clock_after (x ∷ xs) [] ran whole is = absurd ran
   sum_within clock more clock_after (x ∷ xs) (y ∷ ys) (first, between, rest, one, others, told) whole is =
       let (a, b, is_a, is_b, sum) = parts y.engine.state.capacity (whole_capacity ys) whole is in
       omega (arith, sum_by-cons (λ (s : Synchronous K V S X L P W). s.engine.state.weight) y ys, one_within clock first between x y one a is_a, sum_within between rest clock_after xs ys others b is_b, sum)
+  sum_within clock more clock_after xs ys ran whole is = absurd ran
 
   pub whole_within : (clock : C) (more : Bool) (clock_after : C) (xs ys : List (Synchronous K V S X L P W)) → AllRan m now clock more clock_after xs ys → IsWithinWhole (whole_capacity ys) ys
   whole_within clock more clock_after xs ys ran = go (whole_capacity ys) refl

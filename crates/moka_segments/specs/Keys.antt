@@ -13,11 +13,15 @@ use Rattle.moka_segments.specs.Segmented.{Segmented, IsAt}
 abbrev pub EachKey : {K V : Type 0} → (K → Type 0) → Records K V → Type 0
 EachKey {K} {V} Is records = (n : ℕ) (r : Record K V) → get records n ≡ Some r → Is r.key
 
--- this is so of each key that the calls insert
+-- this is so of the key, if the call inserts one
+abbrev pub InsertsOne : {K V P : Type 0} → (K → Type 0) → Call K V P → Type 0
+InsertsOne Is (call.Insert key hash value now) = Is key
+InsertsOne Is c = Unit {0}
+
+-- and of each key that the calls insert
 abbrev pub InsertsOnly : {K V P : Type 0} → (K → Type 0) → List (Call K V P) → Type 0
 InsertsOnly Is [] = Unit {0}
-InsertsOnly Is (call.Insert key hash value now ∷ calls) = Is key × InsertsOnly Is calls
-InsertsOnly Is (c ∷ calls) = InsertsOnly Is calls
+InsertsOnly Is (c ∷ calls) = InsertsOne Is c × InsertsOnly Is calls
 
 -- no segment holds a key
 abbrev pub HoldNone : {K V S X L P W : Type 0} → Segmented K V S X L P W → Type 0

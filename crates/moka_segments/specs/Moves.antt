@@ -42,9 +42,8 @@ module _ {K V S X L P W : Type 0} where
   abbrev pub AreOneEach : (List (Call K V P) → List (Reply K V P) → Type 0) → ℕ → List (Synchronous K V S X L P W) →
       List (Move K V P) → Type 0
   AreOneEach Fit index [] [] = ⊤
-  AreOneEach Fit index [] (v ∷ vs) = ⊥
-  AreOneEach Fit index (x ∷ xs) [] = ⊥
   AreOneEach Fit index (x ∷ xs) (v ∷ vs) = (v.index ≡ index) × Fit v.calls v.replies × AreOneEach Fit (suc index) xs vs
+  AreOneEach Fit index xs moves = ⊥
 
 -- a predicate of these is registered, or refused, or no call is made
 abbrev pub MayRegister : {K V P : Type 0} → (P → Type 0) → Instant → List (Call K V P) → List (Reply K V P) → Type 0

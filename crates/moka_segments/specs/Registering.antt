@@ -47,10 +47,9 @@ module _ {K V S X L P W I : Type 0} (tells : L → K → V → RemovalCause → 
   abbrev pub AllRegister : List Uuid → Result (Unit {0}) (PredicateRefused P) → I → I →
       List (Synchronous K V S X L P W) → List (Synchronous K V S X L P W) → Type 0
   AllRegister given result ids ids_after [] [] = (given ≡ []) × (result ≡ Ok tt) × (ids_after ≡ ids)
-  AllRegister given result ids ids_after [] (y ∷ ys) = ⊥
-  AllRegister given result ids ids_after (x ∷ xs) [] = ⊥
   AllRegister given result ids ids_after (x ∷ xs) (y ∷ ys) =
       ((id : Uuid) × (others : List Uuid) × (between : I) × (given ≡ id ∷ others) × Registers (Ok id) ids between x y
       × AllRegister others result between ids_after xs ys)
       ⊎ ((refused : PredicateRefused P) × (given ≡ []) × (result ≡ Err refused) × (ys ≡ xs)
       × (Registers (Err refused) ids ids_after x y ⊎ HasNoRoom refused ids ids_after x y))
+  AllRegister given result ids ids_after xs ys = ⊥

@@ -1,6 +1,6 @@
 -- What a call by key makes of the segment that the key belongs to: what the synchronous cache's call of that name
 -- promises.
-use Rattle.std.specs.Prelude.{◌≡◌, ℕ, true, false, Option, Some, Result, IfOk, IfSome, OnErr, is_some}
+use Rattle.std.specs.Prelude.{◌≡◌, ℕ, true, false, Option, Some, None, Result, IfOk, IfSome, OnErr, is_some}
 use Rattle.moka_parts.specs.declared.error.InsertRefused.{InsertRefused}
 use Rattle.moka_parts.specs.declared.error.OutOfMemory.{OutOfMemory}
 use Rattle.moka_parts.specs.declared.policy.Instant.{Instant}
@@ -48,6 +48,7 @@ module _ {K V S X L P W C : Type 0} (m : Meaning K V X L P W C (Unit {0})) (hash
     pub made : (taken : Option (V × Result (Unit {0}) OutOfMemory)) × Answers taken
         × Makes (record m { tells = hears_clones is_key_clone is_clone m.tells })
         (RemovesEntry key (hash_of old.engine.hasher key) now taken) old.engine clock new.engine clock_after
+    pub gone : record_of_key m.eq new.engine.state.records key ≡ None
     pub counted : new.stats ≡ old.stats
 
   -- a get, and where it misses an insert of the value that the maker made

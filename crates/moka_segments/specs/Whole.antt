@@ -30,11 +30,10 @@ pub record Ran {K V S X L P W C : Type 0} (m : Meaning K V X L P W C (Unit {0}))
 abbrev pub AllRan : {K V S X L P W C : Type 0} → Meaning K V X L P W C (Unit {0}) → Instant → C → Bool → C →
     List (Synchronous K V S X L P W) → List (Synchronous K V S X L P W) → Type 0
 AllRan m now clock more clock_after [] [] = (more ≡ false) × (clock_after ≡ clock)
-AllRan m now clock more clock_after [] (y ∷ ys) = ⊥
-AllRan m now clock more clock_after (x ∷ xs) [] = ⊥
 AllRan {C = C} m now clock more clock_after (x ∷ xs) (y ∷ ys) =
     (first : Bool) × (between : C) × (rest : Bool) × Ran m now clock first between x y
     × AllRan m now between rest clock_after xs ys × (more ≡ (first || rest))
+AllRan m now clock more clock_after xs ys = ⊥
 
 -- the sum of two capacities, where both are set
 abbrev pub both : Option ℕ → Option ℕ → Option ℕ

@@ -116,6 +116,14 @@ impl<
         &self.segments[index]
     }
 
+    // The first segment: a router knows of one at least.
+    pub(crate) fn first(&self) -> &Cache<K, V, X, L, P, W, S>
+        ensures { IsAt self.now.segments 0 result.now }
+    {
+        let _count = self.router.count();
+        &self.segments[0]
+    }
+
     /// The segment of a key.
     pub fn segment_of(&self, key: &K) -> usize
         ensures place { result ≡ segment_of self.now.routing.count
@@ -192,7 +200,7 @@ impl<
     /// Takes a key out, and hands its value out, expired or not. The listener, if one is set, is notified.
     ///
     /// # Errors
-    /// `NotTold`, with the value, where a listener is set and memory for a clone is refused. The entry is gone all the
+    /// `NotTold`, with the value, if a listener is set and memory for a clone is refused. The entry is gone all the
     /// same.
     pub fn remove<C: Clock>(
         &mut self,

@@ -1,7 +1,9 @@
 //! Calls that concern all segments, and the sums of what each tells.
-ghost use Rattle.std.specs.Prelude.{◌≡◌, length};
+ghost use Rattle.std.specs.Prelude.{◌≡◌, length, option_copied};
 ghost use Rattle.std.specs.List.{AllZip};
+ghost use Rattle.moka_parts.specs.State.{limits_of};
 ghost use Rattle.moka_drive.specs.Synchronous.{meaning_of};
+ghost use Rattle.moka_segments.specs.Segmented.{Holds};
 ghost use Rattle.moka_segments.specs.Whole.{AllRan, Hides, IsWithinWhole, both, both_stats, saturated, total, total_stats, whole_capacity};
 
 use crate::segmented::SegmentedCache;
@@ -9,7 +11,7 @@ use moka_drive::{Cache, Stats};
 use moka_parts::closures::{PredicateFn, Weigher};
 use moka_parts::housekeeper::Clock;
 use moka_parts::notification::Listener;
-use moka_parts::policy::{Expiry, Instant};
+use moka_parts::policy::{Expiry, Instant, Policy};
 use std::hash::{BuildHasher, Hash};
 
 impl<
@@ -49,8 +51,30 @@ impl<
         Self::capacity_of(&self.segments)
     }
 
-    /// Invalidates all entries that were written or read before the moment `now`, also where that is earlier than
-    /// before.
+    /// The first segment's name, if it has one.
+    pub fn name(&self) -> Option<&str>
+        ensures { Holds 0 (λ s. option_copied result ≡ s.engine.name) self.now.segments }
+    {
+        self.first().name()
+    }
+
+    /// The capacity of all, as `max_capacity` tells it, and the first segment's times, as they are set. Its
+    /// `num_segments` is 1, as a segment's is: `router().count()` tells how many there are.
+    pub fn policy(&self) -> Policy
+        ensures { Holds 0 (λ s. result ≡ record (limits_of s.engine.state) {
+          max_capacity = saturated (whole_capacity self.now.segments);
+        }) self.now.segments }
+    {
+        let first = self.first().policy();
+        Policy::new(
+            self.max_capacity(),
+            first.time_to_live(),
+            first.time_to_idle(),
+        )
+    }
+
+    /// Invalidates all entries that were written or read before the moment `now`, which replaces that of an earlier
+    /// call.
     pub fn invalidate_all(&mut self, now: Instant)
         ensures routing { self.new.routing ≡ self.old.routing }
         ensures each { AllZip (Hides L.tells now) self.old.segments self.new.segments }

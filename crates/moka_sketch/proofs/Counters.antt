@@ -1,9 +1,8 @@
 -- The counters that words show: reading one, writing one, halving all, and a fresh table.
-use Rattle.std.proofs.Common.{◌≡◌, ◌≢◌, ℕ, false, ◌+◌, ◌-◌, ◌*◌, ◌/◌, ◌%◌, ◌^◌, ◌<◌, ◌≤◌, List, [], ◌∷◌, Option, Some, length, get_or, set, map, replicate, inl, inr, refl, sym, ap, ◌∙◌, subst, arith, length-set, get_or-set_same, get_or-set_other, bit_and}
+use Rattle.std.proofs.Common.{◌≡◌, ◌≢◌, ℕ, false, ◌+◌, ◌-◌, ◌*◌, ◌/◌, ◌%◌, ◌^◌, ◌<◌, ◌≤◌, List, [], ◌∷◌, Option, Some, length, get_or, set, map, replicate, refl, sym, ap, ◌∙◌, subst, arith, length-set, get_or-set_same, get_or-set_other, bit_and}
 use Rattle.std.proofs.Math.Nat.{zero-div}
 use Rattle.std.proofs.lemmas.List.{get_or-map, get_or-replicate, length-replicate, length-map, set-get_or}
 use Rattle.std.proofs.lemmas.List.FromFn.{length-map-range_with_len, get_or-map-range_with_len}
-use Rattle.std.proofs.lemmas.Bool.{cases_eq}
 use Rattle.std.proofs.lemmas.Grind.{same_number_lists}
 use Rattle.std.proofs.lemmas.Nat.{and_mask, pow_pos}
 use Rattle.std.specs.Int.{IsPowerOfTwo}
@@ -35,27 +34,16 @@ counters_of-set words at q v l m others =
     let below : k < 16 * length words = omega (arith, length-counters_of (set words at v)) in
     let low : k / 16 < length words = omega arith in
     let read = get_or-counters_of (set words at v) k (omega arith) in
-    elim (cases_eq k (16 * at + q)) as (λ _. get_or (counters_of (set words at v)) k 0 ≡ get_or (set (counters_of words) (16 * at + q) (counter_at v q)) k 0) [
-      | inl e ↦
-          read
-          ∙ ap (λ x. counter_at (get_or (set words at v) x 0) (k % 16)) (omega arith)
-          ∙ ap (λ x. counter_at x (k % 16)) (get_or-set_same words at v 0 l)
-          ∙ ap (λ x. counter_at v x) (omega arith)
-          ∙ sym (get_or-set_same (counters_of words) (16 * at + q) (counter_at v q) 0 (omega arith))
-          ∙ ap (λ x. get_or (set (counters_of words) (16 * at + q) (counter_at v q)) x 0) (sym e)
-      | inr ne ↦
-          read
-          ∙ elim (cases_eq (k / 16) at) as (λ _. counter_at (get_or (set words at v) (k / 16) 0) (k % 16) ≡ counter_at (get_or words (k / 16) 0) (k % 16)) [
-            | inl e ↦
-                ap (λ x. counter_at (get_or (set words at v) x 0) (k % 16)) e
-                ∙ ap (λ x. counter_at x (k % 16)) (get_or-set_same words at v 0 l)
-                ∙ others (k % 16) (λ f. ne (omega arith))
-                ∙ ap (λ x. counter_at (get_or words x 0) (k % 16)) (sym e)
-            | inr other ↦ ap (λ x. counter_at x (k % 16)) (get_or-set_other words at (k / 16) v 0 other)
-          ]
-          ∙ sym (get_or-counters_of words k below)
-          ∙ sym (get_or-set_other (counters_of words) (16 * at + q) k (counter_at v q) 0 ne)
-    ])
+    grind (
+      arith,
+      read,
+      get_or-set_same words at v 0 l,
+      get_or-set_other words at (k / 16) v 0,
+      others (k % 16),
+      get_or-counters_of words k below,
+      get_or-set_same (counters_of words) (16 * at + q) (counter_at v q) 0 (omega arith),
+      get_or-set_other (counters_of words) (16 * at + q) k (counter_at v q) 0,
+    ))
 
 -- each counter of each word is halved
 pub counters_of-halved : (words halves : List ℕ) → length halves ≡ length words → ((i q : ℕ) → i < length words → q < 16 → counter_at (get_or halves i 0) q ≡ counter_at (get_or words i 0) q / 2) → counters_of halves ≡ map (λ c. c / 2) (counters_of words)
@@ -103,26 +91,28 @@ and_power x n (k, e) = ap (λ m. bit_and x (m - 1)) e ∙ and_mask x k ∙ ap (�
 pub power_pos : (n : ℕ) → IsPowerOfTwo n → 0 < n
 power_pos n (k, e) = omega (arith, pow_pos k)
 
-place-is : (n hash i factor at position : ℕ) → at ≡ group_of n hash factor → position ≡ 4 * (hash % 4) + i → place_of n hash i factor ≡ 16 * at + position
-place-is n hash i factor at position e f = ap (λ x. 16 * x + (4 * (hash % 4) + i)) (sym e) ∙ ap (λ x. 16 * at + x) (sym f)
-
--- the i-th counter of a hash is at its position of its word
-pub counter-at_place : (words : List ℕ) (hash i factor at position : ℕ) → at ≡ group_of (length words) hash factor → position ≡ 4 * (hash % 4) + i → at < length words → position < 16 → get_or (counters_of words) (place_of (length words) hash i factor) 0 ≡ counter_at (get_or words at 0) position
-counter-at_place words hash i factor at position e f l m =
-    ap (λ x. get_or (counters_of words) x 0) (place-is (length words) hash i factor at position e f) ∙ counter-of_word words at position l m
-
 -- a counter that cannot rise stays
 pub raised-greatest : (counters : List ℕ) (p n : ℕ) → get_or counters p 0 ≡ n → 15 ≤ n → n < 16 → counters ≡ raised counters p
 raised-greatest counters p n e l m = sym (ap (λ x. set counters p x) (omega arith) ∙ set-get_or counters p 0)
 
--- a counter below 15 rises, with its word
-pub raised-word : (words : List ℕ) (hash i factor at position word : ℕ) → at ≡ group_of (length words) hash factor → position ≡ 4 * (hash % 4) + i → at < length words → position < 16 → counter_at (get_or words at 0) position < 15 → counter_at word position ≡ counter_at (get_or words at 0) position + 1 → ((q : ℕ) → q ≢ position → counter_at word q ≡ counter_at (get_or words at 0) q) → counters_of (set words at word) ≡ raised (counters_of words) (place_of (length words) hash i factor)
-raised-word words hash i factor at position word e f l m small here others =
-    let place = place_of (length words) hash i factor in
-    let now : get_or (counters_of words) place 0 ≡ counter_at (get_or words at 0) position = counter-at_place words hash i factor at position e f l m in
-    counters_of-set words at position word l m others
-    ∙ ap (λ x. set (counters_of words) x (counter_at word position)) (sym (place-is (length words) hash i factor at position e f))
-    ∙ ap (λ x. set (counters_of words) place x) (omega arith)
+-- the i-th counter of a hash is at its position of its word
+module _ (words : List ℕ) (hash i factor at position : ℕ) (e : at ≡ group_of (length words) hash factor) (f : position ≡ 4 * (hash % 4) + i) (l : at < length words) (m : position < 16) where
+  place-is : place_of (length words) hash i factor ≡ 16 * at + position
+  place-is = ap (λ x. 16 * x + (4 * (hash % 4) + i)) (sym e) ∙ ap (λ x. 16 * at + x) (sym f)
+
+  pub counter-at_place : get_or (counters_of words) (place_of (length words) hash i factor) 0 ≡ counter_at (get_or words at 0) position
+  counter-at_place = ap (λ x. get_or (counters_of words) x 0) place-is ∙ counter-of_word words at position l m
+
+  -- it rises with its word, if it is below 15
+  pub raised-word : (word : ℕ) → counter_at (get_or words at 0) position < 15 → counter_at word position ≡ counter_at (get_or words at 0) position + 1
+      → ((q : ℕ) → q ≢ position → counter_at word q ≡ counter_at (get_or words at 0) q)
+      → counters_of (set words at word) ≡ raised (counters_of words) (place_of (length words) hash i factor)
+  raised-word word small here others =
+      let place = place_of (length words) hash i factor in
+      let now : get_or (counters_of words) place 0 ≡ counter_at (get_or words at 0) position = counter-at_place in
+      counters_of-set words at position word l m others
+      ∙ ap (λ x. set (counters_of words) x (counter_at word position)) (sym place-is)
+      ∙ ap (λ x. set (counters_of words) place x) (omega arith)
 
 -- a fresh table is sound
 pub IsSound-zeros : (n room : ℕ) → IsPowerOfTwo n → n ≤ 2 ^ 30 → 128 ≤ room → IsSound (replicate {A = ℕ} n 0) room 0

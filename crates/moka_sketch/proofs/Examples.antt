@@ -75,35 +75,13 @@ least_of_shared = refl
 
 -- ---- lengths and sizes
 
-pub length_of_none : table_length_for 0 ≡ 128
+-- the least, a power of two, one more than it, one less than the greatest, and the greatest
+pub lengths : map table_length_for (0 ∷ 128 ∷ 65536 ∷ 65537 ∷ 1073741823 ∷ (2 ^ 64 - 1) ∷ []) ≡ 128 ∷ 128 ∷ 65536 ∷ 131072 ∷ 1073741824 ∷ 1073741824 ∷ []
 unfolding table_length_for
-length_of_none = refl
+lengths = refl
 
-pub length_of_shortest : table_length_for 128 ≡ 128
-unfolding table_length_for
-length_of_shortest = refl
-
-pub length_of_power : table_length_for 65536 ≡ 65536
-unfolding table_length_for
-length_of_power = refl
-
-pub length_just_above : table_length_for 65537 ≡ 131072
-unfolding table_length_for
-length_just_above = refl
-
-pub length_just_below_longest : table_length_for 1073741823 ≡ 1073741824
-unfolding table_length_for
-length_just_below_longest = refl
-
-pub length_of_greatest : table_length_for (2 ^ 64 - 1) ≡ 1073741824
-unfolding table_length_for
-length_of_greatest = refl
-
-pub least_capacity : sketch_capacity_for 0 ≡ 128
-least_capacity = refl
-
-pub greatest_capacity : sketch_capacity_for (2 ^ 32) ≡ 2 ^ 32 - 1
-greatest_capacity = refl
+pub capacities : map sketch_capacity_for (0 ∷ 2 ^ 32 ∷ []) ≡ 128 ∷ (2 ^ 32 - 1) ∷ []
+capacities = refl
 
 -- three members of total weight 5 in a capacity of 10
 pub size_with_weigher : size_asked true 10 3 5 ≡ 1

@@ -16,10 +16,8 @@ half_of_power j k l =
 
 -- a power of two whose half is below n is the least that is no less than n
 pub least_power : (n r k : ℕ) → IsPowerOfTwo r → r / 2 < n → n ≤ 2 ^ k → r ≤ 2 ^ k
-least_power n r k (j, e) half l = elim (cases_lt k j) as (λ _. r ≤ 2 ^ k) [
-  | inl below ↦ absurd (omega (arith, half_of_power k j below, ap (λ x. x / 2) e))
-  | inr above ↦ omega (arith, pow-le-pow_right {n = 2} (lit< tt) {i = j} {j = k} above)
-]
+least_power n r k (j, e) half l =
+    grind (arith, e, half_of_power k j, pow-le-pow_right {n = 2} (lit< tt) {i = j} {j = k})
 
 if_within : (n p x y : ℕ) → n ≤ p → (if nat_le n p then x else y) ≡ x
 if_within n p x y l = grind (arith, nat_tests)

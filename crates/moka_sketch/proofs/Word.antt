@@ -1,8 +1,8 @@
 -- One word of sixteen counters: one more at a position, and all of them halved.
-use Rattle.std.proofs.Common.{◌≡◌, ◌≢◌, ℕ, ◌+◌, ◌-◌, ◌*◌, ◌/◌, ◌%◌, ◌^◌, ◌<◌, ◌≤◌, true, eqb, inl, inr, refl, sym, ap, ◌∙◌, subst, arith, bit_and}
+use Rattle.std.proofs.Common.{◌≡◌, ◌≢◌, ℕ, ◌+◌, ◌-◌, ◌*◌, ◌/◌, ◌%◌, ◌^◌, ◌<◌, ◌≤◌, true, eqb, refl, sym, ap, ◌∙◌, subst, arith, bit_and}
 use Rattle.std.proofs.Math.Nat.{add-mul-div_right, mul-le-mul_right}
 use Rattle.std.proofs.lemmas.Nat.{pow_pos, pow-add, shr-shr, and_shr, and_mod, and_mask, shr_split, mod_below, shr_below}
-use Rattle.std.proofs.lemmas.Bool.{cases_order, agree_below, agree_below_at, eqb-true}
+use Rattle.std.proofs.lemmas.Bool.{agree_below, agree_below_at, eqb-true}
 use Rattle.moka_sketch.specs.Packing.{counter_at}
 
 -- the counters below the position stay
@@ -29,12 +29,7 @@ raised-above n p q l small =
 
 -- one more at a position changes no other counter
 pub raised-other : (n p q : ℕ) → q ≢ p → counter_at n p < 15 → counter_at (n + 2 ^ (4 * p)) q ≡ counter_at n q
-raised-other n p q ne small =
-    elim (cases_order q p) as (λ _. counter_at (n + 2 ^ (4 * p)) q ≡ counter_at n q) [
-      | inl e ↦ absurd (ne e)
-      | inr (inl l) ↦ raised-below n p q l
-      | inr (inr l) ↦ raised-above n p q l small
-    ]
+raised-other n p q ne small = grind (arith, raised-below n p q, raised-above n p q)
 
 -- the sum stays within the word
 pub raised_fits : (n p : ℕ) → n < 2 ^ 64 → p < 16 → counter_at n p < 15 → n + 2 ^ (4 * p) < 2 ^ 64

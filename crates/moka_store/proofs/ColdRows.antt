@@ -2,9 +2,9 @@
 use Rattle.std.proofs.Common.{◌≡◌, ◌≢◌, ℕ, zero, suc, ◌+◌, ◌-◌, ◌<◌, Bool, true, false, ◌≤◌, List, [], ◌∷◌, ◌++◌, length, set, get_or, cond, count_by, IsSome, is_some, Option, Some, None, inl, inr, refl, sym, ap, subst, ◌∙◌, ◌==◌, arith}
 use Rattle.std.specs.Option.{option_map, option_map_or, option_and_then}
 use Rattle.std.proofs.lemmas.List.Sums.{count_by-le-length, sum_by-cons}
-use Rattle.std.proofs.lemmas.List.{get_or-set_same, get_or-set_other, get_or_push, get_or_append_left, get_or_past, length_push, length-set, set-get_or}
+use Rattle.std.proofs.lemmas.List.{get_or-set_same, get_or-set_other, get_or_push, length-set, set-get_or}
 use Rattle.std.proofs.lemmas.Option.{get_or_from_slice_get, slice_get_read}
-use Rattle.std.proofs.lemmas.Bool.{cases_lt, cond-true, cond-false, eq-eqb, ne_eqb, false≢true}
+use Rattle.std.proofs.lemmas.Bool.{cond-true, cond-false, eq-eqb, ne_eqb}
 use Rattle.moka_parts.specs.declared.record_ref.Cold.{Cold}
 use Rattle.moka_parts.specs.declared.record_ref.Front.{Front}
 use Rattle.moka_parts.specs.declared.records.Record.{Record}
@@ -18,7 +18,8 @@ use Rattle.moka_store.specs.States.{touched, rewritten}
 use Rattle.moka_store.specs.Updates.{updated}
 use Rattle.moka_store.specs.declared.store.Update.{Update}
 use Rattle.moka_index.proofs.Maps.{option-cases}
-use Rattle.moka_store.proofs.TableMaps.{some_is, row_at-within}
+use Rattle.moka_parts.proofs.Options.{mapped_is_some}
+use Rattle.moka_store.proofs.TableMaps.{get_or_past_push, some_is, made-of, row_at-within}
 use Rattle.moka_store.proofs.TableCalls.{shows-empty, stored_row, member_row, count-with_stored, numbered-with_stored}
 
 cond-same : {X : Type 0} (b : Bool) → ◌≡◌ {A = Option X} (cond b None None) None
@@ -53,15 +54,11 @@ module _ {K V : Type 0} where
   length-whole (row ∷ rows) [] = ap suc (length-whole rows [])
   length-whole (row ∷ rows) (cold ∷ colds) = ap suc (length-whole rows colds)
 
-  some-whole : (cold : Cold) (row : Option (Row (Front K V))) → is_some (option_map (whole cold) row) ≡ is_some row
-  some-whole cold None = refl
-  some-whole cold (Some row) = refl
-
   pub count-whole : (rows : List (Option (Row (Front K V)))) (colds : List Cold) → count_by is_some (whole_rows rows colds) ≡ count_by is_some rows
   unfolding whole_rows
   count-whole [] colds = refl
-  count-whole (row ∷ rows) [] = count-alike (option_map (whole nothing) row) row (whole_rows rows []) rows (some-whole nothing row) (count-whole rows [])
-  count-whole (row ∷ rows) (cold ∷ colds) = count-alike (option_map (whole cold) row) row (whole_rows rows colds) rows (some-whole cold row) (count-whole rows colds)
+  count-whole (row ∷ rows) [] = count-alike (option_map (whole nothing) row) row (whole_rows rows []) rows (mapped_is_some (whole nothing) row) (count-whole rows [])
+  count-whole (row ∷ rows) (cold ∷ colds) = count-alike (option_map (whole cold) row) row (whole_rows rows colds) rows (mapped_is_some (whole cold) row) (count-whole rows colds)
 
   -- a write of both parts
   pub set-whole : (rows : List (Option (Row (Front K V)))) (colds : List Cold) (place : ℕ) (row : Option (Row (Front K V))) (cold : Cold) → place < length colds
@@ -73,12 +70,15 @@ module _ {K V : Type 0} where
   set-whole (r ∷ rows) (c ∷ colds) (suc place) row cold within = ap (λ l. option_map (whole c) r ∷ l) (set-whole rows colds place row cold (omega arith))
 
   module _ (rows : List (Option (Row (Front K V)))) (colds : List Cold) (place : ℕ) where
+    -- what is read of a row is read of its front
+    reads-whole : {X : Type 0} (f : Option (Row (Record K V)) → X) (g : Option (Row (Front K V)) → X) → f None ≡ g None → ((row : Row (Front K V)) → f (Some (whole (cold_at colds place) row)) ≡ g (Some row)) → f (row_at (whole_rows rows colds) place) ≡ g (row_at rows place)
+    reads-whole f g none some = ap f (whole-at rows colds place) ∙ elim (row_at rows place) as (λ o. f (option_map (whole (cold_at colds place)) o) ≡ g o) [ None ↦ none | Some row ↦ some row ]
+
     -- the front of a row
     pub whole_row : (w : Row (Record K V)) → row_at (whole_rows rows colds) place ≡ Some w → (row : Row (Front K V)) × (row_at rows place ≡ Some row) × (w ≡ whole (cold_at colds place) row)
-    whole_row w at = elim (option-cases (row_at rows place)) as (λ _. (row : Row (Front K V)) × (row_at rows place ≡ Some row) × (w ≡ whole (cold_at colds place) row)) [
-      | inl none ↦ let bad = sym at ∙ whole-at rows colds place ∙ ap (option_map (whole (cold_at colds place))) none in absurd (let n : Some w ≡ None = bad in cc)
-      | inr found ↦ (let same = sym at ∙ whole-at rows colds place ∙ ap (option_map (whole (cold_at colds place))) found.1 in (found.0, found.1, let s : Some w ≡ Some (whole (cold_at colds place) found.0) = same in cc))
-    ]
+    whole_row w at =
+        let r = made-of (whole (cold_at colds place)) (row_at rows place) w (sym (whole-at rows colds place) ∙ at) in
+        (r.0, r.1, sym r.2)
 
     -- the row of a front
     pub row_whole : (row : Row (Front K V)) → row_at rows place ≡ Some row → row_at (whole_rows rows colds) place ≡ Some (whole (cold_at colds place) row)
@@ -112,30 +112,21 @@ module _ {K V : Type 0} where
     -- what a row and its front have alike
     pub keeps : {X : Type 0} (f : Row (Record K V) → Option X) (g : Row (Front K V) → Option X) → ((cold : Cold) (row : Row (Front K V)) → f (whole cold row) ≡ g row)
         → option_and_then f (row_at (whole_rows rows colds) place) ≡ option_and_then g (row_at rows place)
-    keeps f g same = ap (option_and_then f) (whole-at rows colds place) ∙ elim (row_at rows place) as (λ o. option_and_then f (option_map (whole (cold_at colds place)) o) ≡ option_and_then g o) [
-      | None ↦ refl
-      | Some row ↦ same (cold_at colds place) row
-    ]
+    keeps f g same = reads-whole (option_and_then f) (option_and_then g) refl (same (cold_at colds place))
 
     pub number-whole : option_map (λ (row : Row (Record K V)). row.number) (row_at (whole_rows rows colds) place) ≡ option_map (λ (row : Row (Front K V)). row.number) (row_at rows place)
-    number-whole = ap (option_map (λ (row : Row (Record K V)). row.number)) (whole-at rows colds place) ∙ elim (row_at rows place) as (λ o. option_map (λ (row : Row (Record K V)). row.number) (option_map (whole (cold_at colds place)) o) ≡ option_map (λ (row : Row (Front K V)). row.number) o) [
-      | None ↦ refl
-      | Some row ↦ refl
-    ]
+    number-whole = reads-whole (option_map (λ (row : Row (Record K V)). row.number)) (option_map (λ (row : Row (Front K V)). row.number)) refl (λ row. refl)
+
+    pub number_at-whole : number_at (whole_rows rows colds) place ≡ number_at rows place
+    number_at-whole = reads-whole (λ o. option_map_or (λ (row : Row (Record K V)). row.number) o 0) (λ o. option_map_or (λ (row : Row (Front K V)). row.number) o 0) refl (λ row. refl)
 
     -- the record of a front
     pub stored-whole : stored_at (whole_rows rows colds) place ≡ option_map (λ f. joined (number_at rows place) f (cold_at colds place)) (stored_at rows place)
-    stored-whole = ap (option_and_then (λ row. row.stored)) (whole-at rows colds place) ∙ elim (row_at rows place) as (λ o. option_and_then (λ row. row.stored) (option_map (whole (cold_at colds place)) o) ≡ option_map (λ f. joined (option_map_or (λ row. row.number) o 0) f (cold_at colds place)) (option_and_then (λ row. row.stored) o)) [
-      | None ↦ refl
-      | Some row ↦ refl
-    ]
+    stored-whole = reads-whole (option_and_then (λ row. row.stored)) (λ o. option_map (λ f. joined (option_map_or (λ row. row.number) o 0) f (cold_at colds place)) (option_and_then (λ row. row.stored) o)) refl (λ row. refl)
 
     -- the membership of a front, with the weight beside it
     pub membership-whole : membership_at (whole_rows rows colds) place ≡ option_map (counted_as (cold_at colds place).counted) (membership_at rows place)
-    membership-whole = ap (option_and_then (λ row. row.membership)) (whole-at rows colds place) ∙ elim (row_at rows place) as (λ o. option_and_then (λ row. row.membership) (option_map (whole (cold_at colds place)) o) ≡ option_map (counted_as (cold_at colds place).counted) (option_and_then (λ row. row.membership) o)) [
-      | None ↦ refl
-      | Some row ↦ refl
-    ]
+    membership-whole = reads-whole (option_and_then (λ row. row.membership)) (λ o. option_map (counted_as (cold_at colds place).counted) (option_and_then (λ row. row.membership) o)) refl (λ row. refl)
 
     -- a change of a row that its front makes
     pub whole-step : (new : List (Option (Row (Front K V)))) (change : Row (Front K V) → Row (Front K V)) (same : Row (Record K V) → Row (Record K V))
@@ -188,9 +179,7 @@ module _ {K V : Type 0} (table : Table (Front K V)) (colds : List Cold) (fit mos
 
 -- a row has a front
 pub keeps-row : {K V : Type 0} (rows : List (Option (Row (Front K V)))) (colds : List Cold) (place : ℕ) → IsSome (row_at (whole_rows rows colds) place) → IsSome (row_at rows place)
-keeps-row rows colds place h =
-    let w = some_is _ h in
-    ap is_some (whole_row rows colds place w.0 w.1).1
+keeps-row rows colds place h = sym (mapped_is_some (whole (cold_at colds place)) (row_at rows place)) ∙ ap is_some (sym (whole-at rows colds place)) ∙ h
 
 -- after a call that leaves as many rows and as much room
 pub beside_after : {K V : Type 0} (table new : Table (Front K V)) (colds after : List Cold) (fit most : ℕ) → IsBeside table colds fit most → length new.rows ≡ length table.rows → length after ≡ length colds
@@ -205,10 +194,7 @@ beside_after table new colds after fit most b rows_many colds_many room numbered
 
 -- a record has a front
 pub keeps-stored : {K V : Type 0} (rows : List (Option (Row (Front K V)))) (colds : List Cold) (place : ℕ) → IsSome (stored_at (whole_rows rows colds) place) → IsSome (stored_at rows place)
-keeps-stored rows colds place h = elim (option-cases (stored_at rows place)) as (λ _. IsSome (stored_at rows place)) [
-  | inl none ↦ absurd (false≢true (sym (ap is_some (stored-whole rows colds place ∙ ap (option_map (λ f. joined (number_at rows place) f (cold_at colds place))) none)) ∙ h))
-  | inr found ↦ ap is_some found.1
-]
+keeps-stored rows colds place h = sym (mapped_is_some (λ f. joined (number_at rows place) f (cold_at colds place)) (stored_at rows place)) ∙ ap is_some (sym (stored-whole rows colds place)) ∙ h
 
 -- what is read there is the cold part there
 pub cold-read : (colds : List Cold) (place : ℕ) (cold : Cold) → place < length colds → cold ≡ get_or colds place cold → cold ≡ cold_at colds place
@@ -220,12 +206,6 @@ counted-read colds place cold within read = ap (λ (c : Cold). c.counted) (cold-
 pub whole-empty : {K V : Type 0} (rows : List (Option (Row (Front K V)))) (colds : List Cold) → rows ≡ [] → whole_rows rows colds ≡ []
 unfolding whole_rows
 whole-empty rows colds e = ap (λ l. whole_rows l colds) e
-
-pub number_at-whole : {K V : Type 0} (rows : List (Option (Row (Front K V)))) (colds : List Cold) (place : ℕ) → number_at (whole_rows rows colds) place ≡ number_at rows place
-number_at-whole {K} {V} rows colds place = ap (λ o. option_map_or (λ (row : Row (Record K V)). row.number) o 0) (whole-at rows colds place) ∙ elim (row_at rows place) as (λ o. option_map_or (λ (row : Row (Record K V)). row.number) (option_map (whole (cold_at colds place)) o) 0 ≡ option_map_or (λ (row : Row (Front K V)). row.number) o 0) [
-  | None ↦ refl
-  | Some row ↦ refl
-]
 
 pub expiring-is : (expiring : Bool) (moment : Instant) → is_some (expiry_of expiring moment) ≡ expiring
 expiring-is true moment = refl
@@ -292,13 +272,7 @@ module _ {K V : Type 0} (rows new : List (Option (Row (Front K V)))) (colds : Li
 
   -- a new record behind all
   pub inserted-last : place ≡ length colds → ChangesAt (row_at (whole_rows rows colds)) (row_at (whole_rows new (colds ++ cold ∷ []))) place (Some (bare stored))
-  inserted-last last = inserted-at (colds ++ cold ∷ []) (get_or_push colds cold nothing place (sym last)) (λ q ne. elim (cases_lt q (length colds)) as (λ _. cold_at (colds ++ cold ∷ []) q ≡ cold_at colds q) [
-    | inl lt ↦ get_or_append_left colds (cold ∷ []) nothing q lt
-    | inr le ↦ get_or_past (colds ++ cold ∷ []) q nothing (past q ne le) ∙ sym (get_or_past colds q nothing le)
-  ])
-    where
-      past : (q : ℕ) → q ≢ place → length colds ≤ q → length (colds ++ cold ∷ []) ≤ q
-      past q ne le = omega (arith, length_push colds cold)
+  inserted-last last = inserted-at (colds ++ cold ∷ []) (get_or_push colds cold nothing place (sym last)) (λ q ne. get_or_past_push colds cold nothing q (λ e. ne (e ∙ sym last)))
 
   -- a new record at a place that there is
   pub inserted-within : place < length colds → ChangesAt (row_at (whole_rows rows colds)) (row_at (whole_rows new (set colds place cold))) place (Some (bare stored))

@@ -1,10 +1,9 @@
 -- How the index of keys follows a change at one place.
-use Rattle.std.proofs.Common.{◌≡◌, ◌≢◌, ℕ, Bool, true, false, Option, Some, None, inl, inr, sym, ap, ◌∙◌}
+use Rattle.std.proofs.Common.{◌≡◌, ◌≢◌, ℕ, Bool, false, Option, Some, None, inl, inr, sym, ap, ◌∙◌}
 use Rattle.std.proofs.lemmas.Bool.{cases_eq}
 use Rattle.std.specs.Cmp.{IsEquivalence}
 use Rattle.std.specs.FinMap.{get, insert, remove}
 use Rattle.std.specs.Option.{option_map}
-use Rattle.std.proofs.lemmas.Option.{same_Some}
 use Rattle.moka_store.proofs.Gets.{get-inserted, get-past_insert, get-removed, get-past_remove}
 use Rattle.moka_store.specs.StoreTies.{KeyIndex, IsIndex}
 
@@ -29,18 +28,10 @@ module _ {K : Type 0} (eq : K → K → Bool) (a b : ℕ → Option K) (index : 
       once = λ p q x y px qy e. elim (cases_eq p place) as (λ _. p ≡ q) [
         | inl pe ↦ elim (cases_eq q place) as (λ _. p ≡ q) [
           | inl qe ↦ pe ∙ sym qe
-          | inr qn ↦
-              let same : key ≡ x = same_Some _ _ (sym now ∙ ap b (sym pe) ∙ px) in
-              let apart = fresh q y (sym (others q qn) ∙ qy) in
-              let bad : true ≡ false = sym e ∙ ap (λ k. eq k y) (sym same) ∙ apart in
-              cc
+          | inr qn ↦ (let here = ap b pe in let apart = fresh q y (sym (others q qn) ∙ qy) in cc)
         ]
         | inr pn ↦ elim (cases_eq q place) as (λ _. p ≡ q) [
-          | inl qe ↦
-              let same : key ≡ y = same_Some _ _ (sym now ∙ ap b (sym qe) ∙ qy) in
-              let apart = fresh p x (sym (others p pn) ∙ px) in
-              let bad : true ≡ false = sym e ∙ laws.symm x y ∙ ap (λ k. eq k x) (sym same) ∙ apart in
-              cc
+          | inl qe ↦ (let here = ap b qe in let apart = fresh p x (sym (others p pn) ∙ px) in let turned = laws.symm x y in cc)
           | inr qn ↦ i.once p q x y (sym (others p pn) ∙ px) (sym (others q qn) ∙ qy) e
         ]
       ];

@@ -1,5 +1,5 @@
 -- The write list has just the members' numbers, each once.
-use Rattle.std.proofs.Common.{◌≡◌, ◌≢◌, ℕ, Bool, true, false, ◌==◌, List, [], ◌∷◌, map, Option, Some, None, IsSome, is_some, inl, inr, refl, sym, subst, ap, ◌∙◌, nat_eq, Contains, true≢false}
+use Rattle.std.proofs.Common.{◌≡◌, ◌≢◌, ℕ, Bool, true, false, ◌==◌, List, [], ◌∷◌, map, Option, Some, None, is_some, inl, inr, refl, sym, subst, ap, ◌∙◌, nat_eq, Contains}
 use Rattle.std.proofs.lemmas.Bool.{eq-eqb, ne_eqb, cond-false}
 use Rattle.std.specs.FinMap.{get, remove}
 use Rattle.std.specs.List.{IsDistinct, AllByRecursion}
@@ -9,8 +9,7 @@ use Rattle.moka_store.proofs.TableCalls.{get-places, placed_row}
 use Rattle.moka_index.proofs.Maps.{option-cases}
 use Rattle.moka_store.proofs.TableMaps.{altered-same}
 use Rattle.moka_store.specs.declared.table.membership.Membership.{Membership}
-use Rattle.moka_store.specs.RecordTable.{Row}
-use Rattle.moka_store.specs.RecordTable.{row_at, number_at, places_of}
+use Rattle.moka_store.specs.RecordTable.{Row, row_at, number_at, places_of}
 use Rattle.moka_store.proofs.Nodes.{any-none, here, later, node-in}
 use Rattle.moka_store.proofs.Slots.{slot-row, no-node, one-node}
 use Rattle.moka_store.proofs.Ties.{counted-row, counted-unplaced}
@@ -53,10 +52,7 @@ module _ {K V : Type 0} (eq : K → K → Bool) (rows : List (Option (Row (Recor
   unfolding written_of
   unplaced n none = any-none (λ m. number_at rows m.1) (λ m. m == n) list.nodes (λ m c.
       let r = slot-row written_in rows list.nodes w.listed m c in
-      ne_eqb (number_at rows m.1) n (λ e.
-      let there = get-places rows t.numbered m.1 r.row r.at_is in
-      let bad : None ≡ Some m.1 = sym none ∙ ap (get (places_of rows)) (sym e ∙ r.number_is) ∙ there in
-      cc))
+      ne_eqb (number_at rows m.1) n (λ e. (let there = get-places rows t.numbered m.1 r.row r.at_is in cc)))
 
   -- a row that is no member
   pub off-row : {S : Type 0} (hasher : S) (timing : Timing) → IsTimed rows timing.timers → (place : ℕ) (row : Row (Record K V)) → row_at rows place ≡ Some row → row.membership ≡ None → (number : ℕ) → row.number ≡ number → (spare room most : ℕ) → IsOff (kept_of hasher rows nodes list timing spare room most) number
@@ -70,12 +66,12 @@ module _ {K V : Type 0} (eq : K → K → Bool) (rows : List (Option (Row (Recor
       slotless = ap (option_and_then (λ (m : Membership). m.written)) alone
 
       elsewhere : (cursor : Option (ℕ × ℕ)) → IsCursor list.nodes cursor → cursor_of rows cursor ≡ Some row.number → ⊥
-      elsewhere None at e = (let bad : None ≡ Some row.number = sym (cursor-none rows list.nodes) ∙ e in cc)
+      elsewhere None at e = (let none = cursor-none rows list.nodes in cc)
       elsewhere (Some m) at e =
           let off = no-node written_in rows list.nodes w.listed place row at_is t.numbered slotless m (node-in list.nodes m.0 m.1 (at m refl)) in
-          let both = sym (cursor-some rows list.nodes m) ∙ e in
-          let same : number_at rows m.1 ≡ row.number = cc in
-          true≢false (sym (eq-eqb (number_at rows m.1) row.number same) ∙ off)
+          let some = cursor-some rows list.nodes m in
+          let own = eq-eqb row.number row.number refl in
+          cc
 
   pub known-order : list.ordered ≡ true → IsListOf (map (member_at rows) nodes) (written_of rows list.nodes)
   known-order ordered = (
@@ -93,10 +89,9 @@ module _ {K V : Type 0} (eq : K → K → Bool) (rows : List (Option (Row (Recor
   )
     where
       both : (place : ℕ) (row : Row (Record K V)) → row_at rows place ≡ Some row → (o : Option Membership) → row.membership ≡ o → is_some (written_in row) ≡ is_some (option_map (λ (m : Membership). m.counted) row.membership)
-      both place row at_is None is = ap (λ o. is_some (option_and_then (λ (m : Membership). m.written) o)) is ∙ sym (ap (λ o. is_some (option_map (λ (m : Membership). m.counted) o)) is)
+      both place row at_is None is = rw is refl
       both place row at_is (Some m) is =
-          let member : IsSome (option_and_then (λ (row : Row (Record K V)). row.membership) (Some row)) = ap is_some is in
-          let there = w.all ordered place (ap (λ o. is_some (option_and_then (λ (row : Row (Record K V)). row.membership) o)) at_is ∙ member) in
+          let there = w.all ordered place (rw (at_is, is) refl) in
           sym (ap (λ o. is_some (option_and_then written_in o)) at_is) ∙ there ∙ sym (ap (λ o. is_some (option_map (λ (m : Membership). m.counted) o)) is)
 
 -- a list of no nodes has no numbers

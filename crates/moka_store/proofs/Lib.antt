@@ -13,7 +13,6 @@ pub mod Slots
 pub mod Steps
 pub mod TableCalls
 pub mod TableMaps
-pub mod Tests
 pub mod Ties
 pub mod Timed
 pub mod Weights

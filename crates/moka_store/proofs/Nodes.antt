@@ -1,6 +1,7 @@
 -- Nodes of a list, each a slot with the place that it leads to, and what they stand for under a map.
-use Rattle.std.proofs.Common.{◌≡◌, ◌≢◌, ℕ, zero, suc, ◌+◌, ◌<◌, ◌≤◌, Bool, true, false, cond, not, ◌==◌, ◌||◌, filter, List, [], ◌∷◌, ◌++◌, map, Option, Some, None, is_some, length, count_by, inl, inr, refl, sym, ap, subst, ◌∙◌, arith, nat_eq, Contains}
-use Rattle.std.proofs.lemmas.Bool.{cases_eq, cases_Bool, eq-eqb, ne_eqb, eqb-true, cond-true, cond-false}
+use Rattle.std.proofs.Common.{◌≡◌, ◌≢◌, ℕ, zero, suc, ◌+◌, ◌<◌, ◌≤◌, Bool, true, false, cond, not, ◌==◌, filter, List, [], ◌∷◌, ◌++◌, map, Option, Some, None, is_some, length, count_by, inl, inr, refl, sym, ap, ◌∙◌, arith, nat_eq, Contains}
+use Rattle.std.proofs.lemmas.Bool.{cases_eq, eq-eqb, ne_eqb, eqb-true, cond-true}
+use Rattle.std.proofs.lemmas.Bool.Decides.{nat_tests}
 use Rattle.std.proofs.lemmas.List.{get_or-set_other}
 use Rattle.std.proofs.lemmas.List.Sums.{sum_by-set}
 use Rattle.std.proofs.lemmas.Map.{lookup-remove_entry}
@@ -24,9 +25,9 @@ all-push P (m ∷ nodes) slot place a h = (a.0, all-push P nodes slot place a.1 
 
 all-remove : (P : ℕ → Type 0) (test : ℕ → Bool) (nodes : List (ℕ × ℕ)) → AllByRecursion P (keys_of nodes) → AllByRecursion P (keys_of (remove_entry test nodes))
 all-remove P test [] a = a
-all-remove P test (m ∷ nodes) a = elim (cases_Bool (test m.0)) as (λ _. AllByRecursion P (keys_of (remove_entry test (m ∷ nodes)))) [
-  | inl t ↦ subst (λ l. AllByRecursion P (keys_of l)) (sym (cond-true (test m.0) nodes (m ∷ remove_entry test nodes) t)) a.1
-  | inr f ↦ subst (λ l. AllByRecursion P (keys_of l)) (sym (cond-false (test m.0) nodes (m ∷ remove_entry test nodes) f)) (a.0, all-remove P test nodes a.1)
+all-remove P test (m ∷ nodes) a = elim (test m.0) as (λ b. AllByRecursion P (keys_of (cond b nodes (m ∷ remove_entry test nodes)))) [
+  | true ↦ a.1
+  | false ↦ (a.0, all-remove P test nodes a.1)
 ]
 
 pub distinct-none : IsDistinct nat_eq (keys_of {X = ℕ} [])
@@ -37,21 +38,18 @@ distinct-none = tt
 pub distinct-push : (nodes : List (ℕ × ℕ)) (slot place : ℕ) → IsDistinct nat_eq (keys_of nodes) → lookup (nat_eq slot) nodes ≡ None → IsDistinct nat_eq (keys_of (nodes ++ (slot, place) ∷ []))
 unfolding IsDistinct
 distinct-push [] slot place d free = (tt, tt)
-distinct-push (m ∷ nodes) slot place d free = elim (cases_eq slot m.0) as (λ _. IsDistinct nat_eq (keys_of ((m ∷ nodes) ++ (slot, place) ∷ []))) [
-  | inl e ↦ let bad : Some m.1 ≡ None = sym (cond-true (nat_eq slot m.0) (Some m.1) (lookup (nat_eq slot) nodes) (eq-eqb slot m.0 e)) ∙ free in cc
-  | inr ne ↦ (
-    all-push (λ y. nat_eq m.0 y ≡ false) nodes slot place d.0 (ne_eqb m.0 slot (λ e. ne (sym e))),
-    distinct-push nodes slot place d.1 (sym (cond-false (nat_eq slot m.0) (Some m.1) (lookup (nat_eq slot) nodes) (ne_eqb slot m.0 ne)) ∙ free),
-  )
-]
+distinct-push (m ∷ nodes) slot place d free =
+    let apart : nat_eq m.0 slot ≡ false = grind (arith, nat_tests) in
+    let rest : lookup (nat_eq slot) nodes ≡ None = grind (arith, nat_tests) in
+    (all-push (λ y. nat_eq m.0 y ≡ false) nodes slot place d.0 apart, distinct-push nodes slot place d.1 rest)
 
 -- a node leaves
 pub distinct-remove : (test : ℕ → Bool) (nodes : List (ℕ × ℕ)) → IsDistinct nat_eq (keys_of nodes) → IsDistinct nat_eq (keys_of (remove_entry test nodes))
 unfolding IsDistinct
 distinct-remove test [] d = d
-distinct-remove test (m ∷ nodes) d = elim (cases_Bool (test m.0)) as (λ _. IsDistinct nat_eq (keys_of (remove_entry test (m ∷ nodes)))) [
-  | inl t ↦ subst (λ l. IsDistinct nat_eq (keys_of l)) (sym (cond-true (test m.0) nodes (m ∷ remove_entry test nodes) t)) d.1
-  | inr f ↦ subst (λ l. IsDistinct nat_eq (keys_of l)) (sym (cond-false (test m.0) nodes (m ∷ remove_entry test nodes) f)) (all-remove (λ y. nat_eq m.0 y ≡ false) test nodes d.0, distinct-remove test nodes d.1)
+distinct-remove test (m ∷ nodes) d = elim (test m.0) as (λ b. IsDistinct nat_eq (keys_of (cond b nodes (m ∷ remove_entry test nodes)))) [
+  | true ↦ d.1
+  | false ↦ (all-remove (λ y. nat_eq m.0 y ≡ false) test nodes d.0, distinct-remove test nodes d.1)
 ]
 
 -- a node is found by its slot
@@ -93,26 +91,16 @@ module _ (g : ℕ × ℕ → Member) (n : ℕ) where
   -- no node stands for the number
   pub counted-none : (nodes : List (ℕ × ℕ)) → ((m : ℕ × ℕ) → Contains nodes m → ((g m).number == n) ≡ false) → counted_of n (map g nodes) ≡ None
   counted-none [] h = refl
-  counted-none (m ∷ nodes) h =
-      cond-false ((g m).number == n) (Some (g m).counted) (counted_of n (map g nodes)) (h m (here m nodes))
-      ∙ counted-none nodes (λ k c. h k (later m k nodes c))
+  counted-none (m ∷ nodes) h = rw (h m (here m nodes)) (counted-none nodes (λ k c. h k (later m k nodes c)))
 
   -- the node in a slot stands for the number
   module _ (slot : ℕ) where
     pub counted-found : (nodes : List (ℕ × ℕ)) (place : ℕ) → ((m : ℕ × ℕ) → Contains nodes m → ((g m).number == n) ≡ nat_eq slot m.0) → lookup (nat_eq slot) nodes ≡ Some place → counted_of n (map g nodes) ≡ Some (g (slot, place)).counted
     counted-found [] place h e = cc
-    counted-found (m ∷ nodes) place h e = elim (cases_eq slot m.0) as (λ _. counted_of n (map g (m ∷ nodes)) ≡ Some (g (slot, place)).counted) [
-      | inl q ↦
-          let t = eq-eqb slot m.0 q in
-          let p : Some m.1 ≡ Some place = sym (cond-true (nat_eq slot m.0) (Some m.1) (lookup (nat_eq slot) nodes) t) ∙ e in
-          let second : m.1 ≡ place = cc in
-          let same : m ≡ (slot, place) = ap (λ p. (m.0, p)) second ∙ ap (λ s. (s, place)) (sym q) in
-          cond-true ((g m).number == n) (Some (g m).counted) (counted_of n (map g nodes)) (h m (here m nodes) ∙ t) ∙ ap (λ m. Some (g m).counted) same
-      | inr ne ↦
-          let f = ne_eqb slot m.0 ne in
-          cond-false ((g m).number == n) (Some (g m).counted) (counted_of n (map g nodes)) (h m (here m nodes) ∙ f)
-          ∙ counted-found nodes place (λ k c. h k (later m k nodes c)) (sym (cond-false (nat_eq slot m.0) (Some m.1) (lookup (nat_eq slot) nodes) f) ∙ e)
-    ]
+    counted-found (m ∷ nodes) place h e =
+        let first = h m (here m nodes) in
+        let rest = counted-found nodes place (λ k c. h k (later m k nodes c)) in
+        grind (arith, nat_tests)
 
 -- a later node has another slot
 not-later : (m : ℕ × ℕ) (nodes : List (ℕ × ℕ)) (k : ℕ × ℕ) → IsDistinct nat_eq (keys_of (m ∷ nodes)) → Contains nodes k → nat_eq m.0 k.0 ≡ false
@@ -124,59 +112,41 @@ not-later m nodes k d c = ne_eqb m.0 k.0 (λ q. all-other m.0 nodes k d.0 c.0 c.
 module _ {X : Type 0} (g : ℕ × ℕ → X) (test : X → Bool) where
   pub rest-none : (nodes : List (ℕ × ℕ)) → ((m : ℕ × ℕ) → Contains nodes m → test (g m) ≡ false) → filter (λ x. not (test x)) (map g nodes) ≡ map g nodes
   rest-none [] h = refl
-  rest-none (m ∷ nodes) h =
-      cond-true (not (test (g m))) (g m ∷ filter (λ x. not (test x)) (map g nodes)) (filter (λ x. not (test x)) (map g nodes)) (ap not (h m (here m nodes)))
-      ∙ ap (λ l. g m ∷ l) (rest-none nodes (λ k c. h k (later m k nodes c)))
+  rest-none (m ∷ nodes) h = rw (h m (here m nodes), rest-none nodes (λ k c. h k (later m k nodes c))) refl
 
   pub behind-none : (nodes : List (ℕ × ℕ)) → ((m : ℕ × ℕ) → Contains nodes m → test (g m) ≡ false) → behind test (map g nodes) ≡ None
   behind-none [] h = refl
-  behind-none (m ∷ nodes) h =
-      cond-false (test (g m)) (slice_get (map g nodes) 0) (behind test (map g nodes)) (h m (here m nodes)) ∙ behind-none nodes (λ k c. h k (later m k nodes c))
+  behind-none (m ∷ nodes) h = rw (h m (here m nodes)) (behind-none nodes (λ k c. h k (later m k nodes c)))
 
   pub any-none : (nodes : List (ℕ × ℕ)) → ((m : ℕ × ℕ) → Contains nodes m → test (g m) ≡ false) → list_any test (map g nodes) ≡ false
   any-none [] h = refl
-  any-none (m ∷ nodes) h = ap (λ b. b || list_any test (map g nodes)) (h m (here m nodes)) ∙ any-none nodes (λ k c. h k (later m k nodes c))
+  any-none (m ∷ nodes) h = rw (h m (here m nodes)) (any-none nodes (λ k c. h k (later m k nodes c)))
 
   module _ (slot : ℕ) where
     pub any-found : (nodes : List (ℕ × ℕ)) (place : ℕ) → ((m : ℕ × ℕ) → Contains nodes m → test (g m) ≡ nat_eq slot m.0) → lookup (nat_eq slot) nodes ≡ Some place → list_any test (map g nodes) ≡ true
     any-found [] place h e = cc
-    any-found (m ∷ nodes) place h e = elim (cases_Bool (nat_eq slot m.0)) as (λ _. list_any test (map g (m ∷ nodes)) ≡ true) [
-      | inl t ↦ ap (λ b. b || list_any test (map g nodes)) (h m (here m nodes) ∙ t)
-      | inr f ↦
-          ap (λ b. b || list_any test (map g nodes)) (h m (here m nodes) ∙ f)
-          ∙ any-found nodes place (λ k c. h k (later m k nodes c)) (sym (cond-false (nat_eq slot m.0) (Some m.1) (lookup (nat_eq slot) nodes) f) ∙ e)
-    ]
+    any-found (m ∷ nodes) place h e =
+        let first = h m (here m nodes) in
+        let rest = any-found nodes place (λ k c. h k (later m k nodes c)) in
+        grind (arith, nat_tests)
 
     -- the one behind it
     pub behind-found : (nodes : List (ℕ × ℕ)) → ((m : ℕ × ℕ) → Contains nodes m → test (g m) ≡ nat_eq slot m.0) → behind test (map g nodes) ≡ option_map g (next_after slot nodes)
     behind-found [] h = refl
-    behind-found (m ∷ nodes) h = elim (cases_Bool (nat_eq slot m.0)) as (λ _. behind test (map g (m ∷ nodes)) ≡ option_map g (next_after slot (m ∷ nodes))) [
-      | inl t ↦
-          cond-true (test (g m)) (slice_get (map g nodes) 0) (behind test (map g nodes)) (h m (here m nodes) ∙ t)
-          ∙ get-map g nodes
-          ∙ ap (option_map g) (sym (cond-true (nat_eq slot m.0) (slice_get nodes 0) (next_after slot nodes) t))
-      | inr f ↦
-          cond-false (test (g m)) (slice_get (map g nodes) 0) (behind test (map g nodes)) (h m (here m nodes) ∙ f)
-          ∙ behind-found nodes (λ k c. h k (later m k nodes c))
-          ∙ ap (option_map g) (sym (cond-false (nat_eq slot m.0) (slice_get nodes 0) (next_after slot nodes) f))
-    ]
+    behind-found (m ∷ nodes) h =
+        rw (h m (here m nodes)) (elim (nat_eq slot m.0) as (λ b. cond b (slice_get (map g nodes) 0) (behind test (map g nodes)) ≡ option_map g (cond b (slice_get nodes 0) (next_after slot nodes))) [
+          | true ↦ get-map g nodes
+          | false ↦ behind-found nodes (λ k c. h k (later m k nodes c))
+        ])
 
     -- all but it
     pub rest-found : (nodes : List (ℕ × ℕ)) → IsDistinct nat_eq (keys_of nodes) → ((m : ℕ × ℕ) → Contains nodes m → test (g m) ≡ nat_eq slot m.0) → filter (λ x. not (test x)) (map g nodes) ≡ map g (remove_entry (nat_eq slot) nodes)
     unfolding IsDistinct
     rest-found [] d h = refl
-    rest-found (m ∷ nodes) d h = elim (cases_eq slot m.0) as (λ _. filter (λ x. not (test x)) (map g (m ∷ nodes)) ≡ map g (remove_entry (nat_eq slot) (m ∷ nodes))) [
-      | inl q ↦
-          let t = eq-eqb slot m.0 q in
-          cond-false (not (test (g m))) (g m ∷ filter (λ x. not (test x)) (map g nodes)) (filter (λ x. not (test x)) (map g nodes)) (ap not (h m (here m nodes) ∙ t))
-          ∙ rest-none nodes (λ k c. h k (later m k nodes c) ∙ ap (λ s. nat_eq s k.0) q ∙ not-later m nodes k d c)
-          ∙ ap (map g) (sym (cond-true (nat_eq slot m.0) nodes (m ∷ remove_entry (nat_eq slot) nodes) t))
-      | inr ne ↦
-          let f = ne_eqb slot m.0 ne in
-          cond-true (not (test (g m))) (g m ∷ filter (λ x. not (test x)) (map g nodes)) (filter (λ x. not (test x)) (map g nodes)) (ap not (h m (here m nodes) ∙ f))
-          ∙ ap (λ l. g m ∷ l) (rest-found nodes d.1 (λ k c. h k (later m k nodes c)))
-          ∙ ap (map g) (sym (cond-false (nat_eq slot m.0) nodes (m ∷ remove_entry (nat_eq slot) nodes) f))
-    ]
+    rest-found (m ∷ nodes) d h = rw (h m (here m nodes)) (elim (cases_eq slot m.0) as (λ _. cond (not (nat_eq slot m.0)) (g m ∷ filter (λ x. not (test x)) (map g nodes)) (filter (λ x. not (test x)) (map g nodes)) ≡ map g (cond (nat_eq slot m.0) nodes (m ∷ remove_entry (nat_eq slot) nodes))) [
+      | inl q ↦ rw (eq-eqb slot m.0 q) (rest-none nodes (λ k c. h k (later m k nodes c) ∙ ap (λ s. nat_eq s k.0) q ∙ not-later m nodes k d c))
+      | inr ne ↦ rw (ne_eqb slot m.0 ne) (ap (λ l. g m ∷ l) (rest-found nodes d.1 (λ k c. h k (later m k nodes c))))
+    ])
 
 -- ---- what is found once a slot left
 
@@ -209,13 +179,7 @@ module _ {X : Type 0} (f : X → Option ℕ) where
       let c = count-cleared rows m.1 w.0 w.1 in
       let rest : length nodes ≤ count_by is_some (slice_set rows m.1 None) = length-nodes nodes (slice_set rows m.1 None) d.1 (λ k kc.
       let v = h k (later m k nodes kc) in
-      let apart : k.1 ≢ m.1 = (λ e.
-      let both : Some v.0 ≡ Some w.0 = sym v.1 ∙ ap (λ p. slice_index_or rows p None) e ∙ w.1 in
-      let same : v.0 ≡ w.0 = cc in
-      let slots : Some k.0 ≡ Some m.0 = sym v.2 ∙ ap f same ∙ w.2 in
-      let s : m.0 ≡ k.0 = cc in
-      let bad : true ≡ false = sym (eq-eqb m.0 k.0 s) ∙ not-later m nodes k d kc in
-      cc) in
+      let apart : k.1 ≢ m.1 = (λ e. let other = not-later m nodes k d kc in let own = eq-eqb m.0 m.0 refl in cc) in
       (v.0, get_or-set_other rows m.1 k.1 None None apart ∙ v.1, v.2)) in
       omega (arith, c, rest)
 
@@ -225,10 +189,6 @@ module _ {X : Type 0} (f : X → Option ℕ) where
       let c = count-cleared rows place x e in
       let rest : length nodes ≤ count_by is_some (slice_set rows place None) = length-nodes nodes (slice_set rows place None) d (λ k kc.
       let v = h k kc in
-      let apart : k.1 ≢ place = (λ q.
-      let both : Some v.0 ≡ Some x = sym v.1 ∙ ap (λ p. slice_index_or rows p None) q ∙ e in
-      let same : v.0 ≡ x = cc in
-      let bad : None ≡ Some k.0 = sym none ∙ ap f (sym same) ∙ v.2 in
-      cc) in
+      let apart : k.1 ≢ place = (λ q. cc) in
       (v.0, get_or-set_other rows place k.1 None None apart ∙ v.1, v.2)) in
       omega (arith, c, rest)

@@ -7,16 +7,16 @@ use Rattle.std.specs.Option.{option_map, option_and_then, option_map_or}
 use Rattle.std.specs.Ordering.{nat_cmp}
 use Rattle.std.specs.Prelude.{IfSome, IfNone}
 use Rattle.moka_index.proofs.Maps.{option-cases}
-use Rattle.moka_store.proofs.TableMaps.{altered-same}
+use Rattle.moka_parts.proofs.Options.{mapped_is_some}
+use Rattle.moka_store.proofs.TableMaps.{some_is, read-of, altered-same}
 use Rattle.moka_store.proofs.TableCalls.{get-places}
 use Rattle.moka_store.specs.declared.table.membership.Membership.{Membership}
-use Rattle.moka_store.specs.RecordTable.{Row}
-use Rattle.moka_store.specs.RecordTable.{row_at, number_at, membership_at, places_of, IsNumbered, ChangesAt}
+use Rattle.moka_store.specs.RecordTable.{Row, row_at, number_at, membership_at, places_of, IsNumbered, ChangesAt}
 use Rattle.moka_wheel.specs.Wheel.{Timer}
 use Rattle.moka_store.proofs.Nodes.{map-all, node-in}
 use Rattle.moka_store.proofs.Slots.{slot-row, number-of, node-of, listed-kept, listed-moved, listed-added, listed-removed, listed-empty}
 use Rattle.moka_store.proofs.Timed.{timed-kept, timers-kept, timed-set, timers-set, timers-gone, timed-below, moment-row}
-use Rattle.moka_store.proofs.Ties.{read-other, read-same, counted-row}
+use Rattle.moka_store.proofs.Ties.{reads-same, read-other, read-same, counted-row}
 use Rattle.moka_store.proofs.Written.{listed-row, written-same, cursor-same, written-pushed, written-moved, written-removed, cursor-past}
 use Rattle.moka_store.specs.declared.store.Handle.{Handle}
 use Rattle.moka_store.specs.Listing.{Listing, IsCursor, node_past}
@@ -26,17 +26,15 @@ use Rattle.moka_store.specs.StoreTies.{KeyIndex, IsListed, IsTied, IsWritten, Is
 use Rattle.moka_store.specs.Timing.{Timing, timer_after}
 use Rattle.moka_parts.specs.declared.policy.Instant.{Instant}
 use Rattle.moka_parts.specs.declared.records.Record.{Record}
-use Rattle.moka_parts.specs.Time.{moment_of}
 use Rattle.moka_parts.specs.Records.{counted_of, without_number, number_to_back, entered_by}
 
 -- a row with a slot in the write list is a member's
 written-member : {K V : Type 0} (o : Option (Row (Record K V))) → IsSome (option_and_then written_in o) → IsSome (option_and_then (λ (row : Row (Record K V)). row.membership) o)
-written-member None h = h
-written-member (Some row) h = go row.membership h
-  where
-    go : (o : Option Membership) → IsSome (option_and_then (λ (m : Membership). m.written) o) → IsSome o
-    go None h = h
-    go (Some m) h = refl
+written-member {K} {V} o h =
+    let s = some_is (option_and_then written_in o) h in
+    let w = read-of written_in o s.0 s.1 in
+    let m = read-of (λ (m : Membership). m.written) w.0.membership s.0 w.2 in
+    ap is_some (ap (option_and_then (λ (row : Row (Record K V)). row.membership)) w.1 ∙ m.1)
 
 -- the write list is that of these rows, and shows this
 pub record WrittenAfter {K V : Type 0} (rows : List (Option (Row (Record K V)))) (list : Listing) (order : List ℕ) (at : Option ℕ) : Type 0 where
@@ -57,10 +55,7 @@ module _ {K V : Type 0} (rows new : List (Option (Row (Record K V)))) (place : �
     (member : is_some (option_and_then (λ (row : Row (Record K V)). row.membership) o) ≡ is_some (membership_at rows place))
     (number : IsSome (membership_at rows place) → option_map_or (λ (row : Row (Record K V)). row.number) o 0 ≡ number_at rows place) where
   membered : (p : ℕ) → is_some (membership_at new p) ≡ is_some (membership_at rows p)
-  membered p = elim (cases_eq p place) as (λ _. is_some (membership_at new p) ≡ is_some (membership_at rows p)) [
-    | inl q ↦ ap (λ p. is_some (membership_at new p)) q ∙ ap (λ o. is_some (option_and_then (λ (row : Row (Record K V)). row.membership) o)) c.changed ∙ member ∙ ap (λ p. is_some (membership_at rows p)) (sym q)
-    | inr ne ↦ ap is_some (read-other (λ (row : Row (Record K V)). row.membership) (row_at rows) (row_at new) place o c p ne)
-  ]
+  membered = reads-same (row_at rows) (row_at new) place o c (λ o. is_some (option_and_then (λ (row : Row (Record K V)). row.membership) o)) member
 
   kept : (p : ℕ) → IsSome (membership_at rows p) → number_at new p ≡ number_at rows p
   kept p some = elim (cases_eq p place) as (λ _. number_at new p ≡ number_at rows p) [
@@ -156,10 +151,7 @@ module _ {K V : Type 0} (rows : List (Option (Row (Record K V)))) (list after : 
 
 module _ {K V : Type 0} (rows new : List (Option (Row (Record K V)))) (list after : Listing) (timers : FinMap nat_cmp Timer) (w : IsWritten rows list) (t : IsTimed rows timers) (d : IsNumbered (row_at rows)) (e : IsNumbered (row_at new)) (place : ℕ) (was : Row (Record K V)) (at_is : row_at rows place ≡ Some was) where
   numbers-kept : (row : Row (Record K V)) → ChangesAt (row_at rows) (row_at new) place (Some row) → row.number ≡ was.number → (p : ℕ) → number_at new p ≡ number_at rows p
-  numbers-kept row c number p = elim (cases_eq p place) as (λ _. number_at new p ≡ number_at rows p) [
-    | inl q ↦ ap (number_at new) q ∙ number-of new place row c.changed ∙ number ∙ sym (number-of rows place was at_is) ∙ ap (number_at rows) (sym q)
-    | inr ne ↦ ap (λ o. option_map_or (λ (row : Row (Record K V)). row.number) o 0) (c.others p ne)
-  ]
+  numbers-kept row c number = reads-same (row_at rows) (row_at new) place (Some row) c (λ o. option_map_or (λ (row : Row (Record K V)). row.number) o 0) (number ∙ sym (number-of rows place was at_is))
 
   same-timer : (row : Row (Record K V)) → ChangesAt (row_at rows) (row_at new) place (Some row) → row.timer ≡ was.timer → (p : ℕ) → timer_at new p ≡ timer_at rows p
   same-timer row c timer = read-same (λ (row : Row (Record K V)). row.timer) (row_at rows) (row_at new) place (Some row) c (timer ∙ sym (ap (option_and_then (λ (row : Row (Record K V)). row.timer)) at_is))
@@ -321,10 +313,6 @@ module _ {K V : Type 0} (rows new : List (Option (Row (Record K V)))) (list : Li
       shown true at given kept none = ap (λ b. with_timer (timers_of timers rows) was.number (cond b at None)) kept ∙ ap (with_timer (timers_of timers rows) was.number) (present at)
       shown false at given kept none = ap (λ b. with_timer (timers_of timers rows) was.number (cond b at None)) kept ∙ altered-same (timers_of timers rows) was.number None (unmoved (none refl))
 
-pub some-moment : (o : Option Instant) → is_some (moment_of o) ≡ is_some o
-some-moment None = refl
-some-moment (Some i) = refl
-
 -- where a row has no timer, there is room for one
 pub timer-room : {K V : Type 0} (rows : List (Option (Row (Record K V)))) (timers : FinMap nat_cmp Timer) → IsTimed rows timers → (place : ℕ) (was : Row (Record K V)) → row_at rows place ≡ Some was → (at : Option Instant) (most : ℕ) → count_by is_some rows ≤ most → (before : Option ℕ) → before ≡ was.timer → IfNone before (IfSome at (λ _. len timers < most))
 timer-room rows timers t place was at_is at most fits (Some slot) is = tt
@@ -345,19 +333,11 @@ pub record MemberPlace {K V : Type 0} (rows : List (Option (Row (Record K V)))) 
 module _ {K V : Type 0} (eq : K → K → Bool) (rows : List (Option (Row (Record K V)))) (index : KeyIndex K) (nodes : List (ℕ × ℕ)) (t : IsTied eq rows index nodes) where
   -- a member's number is counted
   pub counted-member : (place : ℕ) (row : Row (Record K V)) → row_at rows place ≡ Some row → IsSome row.membership → IsSome (counted_of row.number (map (member_at rows) nodes))
-  counted-member place row at_is member = ap is_some (counted-row eq rows index nodes t place row at_is) ∙ mapped row.membership member
-    where
-      mapped : (o : Option Membership) → IsSome o → IsSome (option_map (λ (m : Membership). m.counted) o)
-      mapped None h = h
-      mapped (Some m) h = refl
+  counted-member place row at_is member = ap is_some (counted-row eq rows index nodes t place row at_is) ∙ mapped_is_some (λ (m : Membership). m.counted) row.membership ∙ member
 
   -- a row whose number is counted is a member's
   pub member-of : (place : ℕ) (row : Row (Record K V)) → row_at rows place ≡ Some row → IsSome (counted_of row.number (map (member_at rows) nodes)) → IsSome row.membership
-  member-of place row at_is counted = unmapped row.membership (sym (ap is_some (counted-row eq rows index nodes t place row at_is)) ∙ counted)
-    where
-      unmapped : (o : Option Membership) → IsSome (option_map (λ (m : Membership). m.counted) o) → IsSome o
-      unmapped None h = h
-      unmapped (Some m) h = refl
+  member-of place row at_is counted = sym (ap is_some (counted-row eq rows index nodes t place row at_is) ∙ mapped_is_some (λ (m : Membership). m.counted) row.membership) ∙ counted
 
   -- a node of the write list leads to one, and its number stands in the order
   pub written-place : (list : Listing) → IsWritten rows list → (slot place : ℕ) → lookup (nat_eq slot) list.nodes ≡ Some place → MemberPlace rows nodes place
@@ -401,16 +381,3 @@ timed-empty {K} {V} rows timers re te = record {
   };
   members = λ p some. absurd (false≢true (sym (ap (λ (r : List (Option (Row (Record K V)))). is_some (timer_at r p)) re) ∙ some));
 }
-
--- what is shown of nothing
-pub written-none : {K V : Type 0} (rows : List (Option (Row (Record K V)))) (list : Listing) → list.nodes ≡ [] → written_of rows list.nodes ≡ []
-unfolding written_of
-written-none {K} {V} rows list e = ap (map (λ (m : ℕ × ℕ). number_at rows m.1)) e
-
-pub timers-none : {K V : Type 0} (rows : List (Option (Row (Record K V)))) (timers : FinMap nat_cmp Timer) → rows ≡ [] → timers_of timers rows ≡ empty
-unfolding timers_of
-timers-none rows timers e = ap (timers_of timers) e
-
-pub cursor-nowhere : {K V : Type 0} (rows : List (Option (Row (Record K V)))) (list : Listing) → list.cursor ≡ None → cursor_of rows list.cursor ≡ None
-unfolding cursor_of
-cursor-nowhere {K} {V} rows list e = ap (option_map (λ (m : ℕ × ℕ). number_at rows m.1)) e

@@ -3,7 +3,6 @@ use Rattle.std.proofs.Common.{◌≡◌, ◌+◌, ◌<◌, ◌≤◌, ◌^◌, �
 use Rattle.std.proofs.lemmas.Bool.{cases_Bool, cond-false, leb-true}
 use Rattle.std.proofs.lemmas.List.Elements.{Contains-append_right}
 use Rattle.std.specs.FinMap.{get}
-use Rattle.std.specs.Option.{option_and_then}
 use Rattle.moka_store.specs.RecordTable.{Row, row_at, stored_at, records_of, places_of}
 use Rattle.moka_store.proofs.TableCalls.{record_row, placed_row, get-places, get-records}
 use Rattle.moka_parts.specs.declared.records.Record.{Record}
@@ -12,7 +11,7 @@ use Rattle.moka_parts.specs.Records.{counted_of}
 use Rattle.moka_parts.proofs.Maps.{same_by_test}
 use Rattle.moka_store.specs.StoreRows.{member_at, row_room}
 use Rattle.moka_store.specs.StoreTies.{KeyIndex, IsTied}
-use Rattle.moka_store.proofs.Gets.{option-cases, some_is}
+use Rattle.moka_store.proofs.TableMaps.{some_is, read-of}
 use Rattle.moka_store.proofs.Nodes.{in-nodes}
 use Rattle.moka_store.proofs.Steps.{node-member}
 
@@ -50,12 +49,9 @@ module _ {K V : Type 0} (eq : K → K → Bool) (rows : List (Option (Row (Recor
   -- the record at a place is the one of its own number
   pub stored-own : (place : ℕ) (o : Option (Record K V)) → o ≡ stored_at rows place → IfSome o (λ r. get (records_of rows) r.number ≡ Some r)
   stored-own place None e = tt
-  stored-own place (Some b) e = elim (option-cases (row_at rows place)) as (λ _. get (records_of rows) b.number ≡ Some b) [
-    | inl none ↦ let bad : Some b ≡ None = e ∙ ap (option_and_then (λ (row : Row (Record K V)). row.stored)) none in cc
-    | inr row ↦
-        let is : row.0.stored ≡ Some b = sym (e ∙ ap (option_and_then (λ (row : Row (Record K V)). row.stored)) row.1) in
-        ap (get (records_of rows)) (t.named.same place row.0 b row.1 is) ∙ get-records rows t.numbered place row.0 row.1 ∙ is
-  ]
+  stored-own place (Some b) e =
+      let w = read-of (λ (row : Row (Record K V)). row.stored) (row_at rows place) b (sym e) in
+      ap (get (records_of rows)) (t.named.same place w.0 b w.1 w.2) ∙ get-records rows t.numbered place w.0 w.1 ∙ w.2
 
 -- where there is room for a row, all places that fit with no memory have 32 bits
 pub room-narrow : {R : Type 0} (rows : List (Option (Row R))) (room : ℕ) → 0 < row_room rows room → count_by is_some rows + room ≤ 2 ^ 32

@@ -1,13 +1,13 @@
 -- What a change of one entry makes of the rows.
-use Rattle.std.proofs.Common.{◌≡◌, ◌≢◌, ℕ, ◌<◌, ◌≤◌, inl, inr, List, [], ◌∷◌, ◌++◌, map, length, get_or, set, Some, None, is_some, count_by, slice_get, sym, ap, ◌∙◌, arith}
-use Rattle.std.proofs.lemmas.List.{map-set, map_push, length-map, length-set, get_or-map, get_or-set_same, get_or-set_other, get_or_append_left, get_or_past, get_or_push, length_push}
-use Rattle.std.proofs.lemmas.Bool.{cases_lt}
+use Rattle.std.proofs.Common.{◌≡◌, ◌≢◌, ℕ, ◌<◌, List, [], ◌∷◌, ◌++◌, map, length, get_or, set, Some, None, is_some, count_by, slice_get, sym, ap, ◌∙◌, arith}
+use Rattle.std.proofs.lemmas.List.{map-set, map_push, length-map, length-set, get_or-map, get_or-set_same, get_or-set_other, get_or_push}
 use Rattle.std.proofs.lemmas.Option.{slice_get_within, get_or_from_slice_get}
 use Rattle.slab.specs.declared.Entry.{Entry}
 use Rattle.slab.specs.declared.Entry.TheVariants.{Vacant, Occupied}
 use Rattle.slab.specs.Entry.{value_of, IsSound}
 use Rattle.slab.proofs.EntryLemmas.{occupied_at, count-set, vacant_before_end, IsSound-rewrite}
 use Rattle.moka_store.specs.RecordTable.{Row, row_at, ChangesAt}
+use Rattle.moka_store.proofs.TableMaps.{get_or_past_push}
 
 module _ {R : Type 0} (es : List (Entry (Row R))) (place : ℕ) where
   -- a row is an occupied entry
@@ -38,14 +38,8 @@ module _ {R : Type 0} (es : List (Entry (Row R))) (place : ℕ) where
   pub push-changes : (e : Entry (Row R)) → place ≡ length es → ChangesAt (row_at (map value_of es)) (row_at (map value_of (es ++ e ∷ []))) place (value_of e)
   push-changes e last = record {
     changed = rw (map_push value_of es e) (get_or_push (map value_of es) (value_of e) None place (omega (arith, length-map es value_of)));
-    others = λ other differs. rw (map_push value_of es e) (elim (cases_lt other (length (map value_of es))) as (λ _. row_at (map value_of es ++ value_of e ∷ []) other ≡ row_at (map value_of es) other) [
-      | inl lt ↦ get_or_append_left (map value_of es) (value_of e ∷ []) None other lt
-      | inr le ↦ get_or_past (map value_of es ++ value_of e ∷ []) other None (past other le differs) ∙ sym (get_or_past (map value_of es) other None le)
-    ]);
+    others = λ other differs. rw (map_push value_of es e) (get_or_past_push (map value_of es) (value_of e) None other (λ same. differs (omega (arith, length-map es value_of))));
   }
-    where
-      past : (other : ℕ) → length (map value_of es) ≤ other → other ≢ place → length (map value_of es ++ value_of e ∷ []) ≤ other
-      past other le differs = omega (arith, length_push (map value_of es) (value_of e), length-map es value_of)
 
 -- a write of one entry leaves as many rows
 pub length-rows : {R : Type 0} (es : List (Entry (Row R))) (place : ℕ) (e : Entry (Row R)) → length (map value_of (set es place e)) ≡ length (map value_of es)

@@ -5,16 +5,11 @@ use Rattle.std.specs.List.{IsDistinct}
 use Rattle.std.specs.Map.{lookup, remove_entry, keys_of}
 use Rattle.std.specs.Option.{option_and_then, option_map_or}
 use Rattle.moka_structures.proofs.Linked.{linked-same, linked-added, linked-removed}
-use Rattle.moka_store.specs.RecordTable.{Row}
-use Rattle.moka_store.specs.RecordTable.{row_at, number_at, IsNumbered}
+use Rattle.moka_store.specs.RecordTable.{Row, row_at, number_at, IsNumbered}
+use Rattle.moka_store.proofs.TableMaps.{read-of}
 use Rattle.moka_store.proofs.Nodes.{in-nodes, length-nodes, length-nodes_below, distinct-none, distinct-push, distinct-remove, lookup-removed}
 use Rattle.moka_store.specs.StoreTies.{IsListed}
 use Rattle.moka_parts.specs.declared.records.Record.{Record}
-
--- what is read of something was read of what is there
-pub read-of : {X Y : Type 0} (f : X → Option Y) (o : Option X) (y : Y) → option_and_then f o ≡ Some y → (x : X) × (o ≡ Some x) × (f x ≡ Some y)
-read-of f None y h = cc
-read-of f (Some x) y h = (x, refl, h)
 
 -- the row with this slot, to which its node leads
 pub record SlotRow {K V : Type 0} (slot_in : Row (Record K V) → Option ℕ) (rows : List (Option (Row (Record K V)))) (node : ℕ × ℕ) : Type 0 where
@@ -43,12 +38,7 @@ module _ {K V : Type 0} (slot_in : Row (Record K V) → Option ℕ) (rows : List
 
     -- no node leads to a row without a slot
     pub off-nodes : slot_in row ≡ None → (m : ℕ × ℕ) → Contains nodes m → m.1 ≢ place
-    off-nodes none m h e =
-        let w = slot-row m h in
-        let both : Some w.row ≡ Some row = sym w.at_is ∙ ap (row_at rows) e ∙ at_is in
-        let same : w.row ≡ row = cc in
-        let bad : None ≡ Some m.0 = sym none ∙ ap slot_in (sym same) ∙ w.slot_is in
-        cc
+    off-nodes none m h e = let w = slot-row m h in cc
 
     -- the node in its slot leads to the row
     pub node-of : (slot : ℕ) → slot_in row ≡ Some slot → lookup (nat_eq slot) nodes ≡ Some place
@@ -68,20 +58,10 @@ module _ {K V : Type 0} (slot_in : Row (Record K V) → Option ℕ) (rows : List
           let w = slot-row k h in
           elim (cases_eq slot k.0) as (λ _. (number_at rows k.1 == row.number) ≡ nat_eq slot k.0) [
             | inl s ↦
-                let both : Some place ≡ Some k.1 = sym (node-of slot is) ∙ ap (λ s. lookup (nat_eq s) nodes) s ∙ in-nodes nodes k l.distinct h in
-                let p : place ≡ k.1 = cc in
-                let rs : Some w.row ≡ Some row = sym w.at_is ∙ ap (row_at rows) (sym p) ∙ at_is in
-                let r : w.row ≡ row = cc in
-                eq-eqb (number_at rows k.1) row.number (w.number_is ∙ ap (λ r. r.number) r) ∙ sym (eq-eqb slot k.0 s)
-            | inr ne ↦
-                ne_eqb (number_at rows k.1) row.number (λ e.
-                let p = same-place k h e in
-                let rs : Some w.row ≡ Some row = sym w.at_is ∙ ap (row_at rows) p ∙ at_is in
-                let r : w.row ≡ row = cc in
-                let slots : Some k.0 ≡ Some slot = sym w.slot_is ∙ ap slot_in r ∙ is in
-                let same : k.0 ≡ slot = cc in
-                ne (sym same))
-                ∙ sym (ne_eqb slot k.0 ne)
+                let both = sym (node-of slot is) ∙ ap (λ s. lookup (nat_eq s) nodes) s ∙ in-nodes nodes k l.distinct h in
+                let same : w.row ≡ row = cc in
+                eq-eqb (number_at rows k.1) row.number (w.number_is ∙ ap (λ r. r.number) same) ∙ sym (eq-eqb slot k.0 s)
+            | inr ne ↦ ne_eqb (number_at rows k.1) row.number (λ e. let there = same-place k h e in ne (cc)) ∙ sym (ne_eqb slot k.0 ne)
           ]
 
   -- ---- after a change
@@ -121,9 +101,6 @@ module _ {K V : Type 0} (slot_in : Row (Record K V) → Option ℕ) (rows : List
 -- no nodes and no rows
 pub listed-empty : {K V : Type 0} (slot_in : Row (Record K V) → Option ℕ) (rows : List (Option (Row (Record K V)))) (nodes : List (ℕ × ℕ)) → rows ≡ [] → nodes ≡ [] → IsListed slot_in rows nodes
 listed-empty slot_in rows nodes re ne = record {
-  linked = record {
-    to_slot = λ s p h. (let bad : None ≡ Some p = ap (lookup (nat_eq s)) (sym ne) ∙ h in cc);
-    to_place = λ s p h. (let bad : None ≡ Some s = sym (ap (λ r. option_and_then slot_in (row_at r p)) re) ∙ h in cc);
-  };
+  linked = record { to_slot = λ s p h. (let none = ap (lookup (nat_eq s)) ne in cc); to_place = λ s p h. (let none = ap (λ r. option_and_then slot_in (row_at r p)) re in cc) };
   distinct = subst (λ l. IsDistinct nat_eq (keys_of l)) (sym ne) distinct-none;
 }

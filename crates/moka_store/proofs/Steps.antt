@@ -1,6 +1,7 @@
 -- What a store is after each of its calls.
-use Rattle.std.proofs.Common.{◌≡◌, ℕ, ◌≤◌, Bool, true, false, cond, List, [], ◌∷◌, ◌++◌, map, Option, Some, None, IsSome, is_some, count_by, inl, inr, refl, sym, ap, subst, ◌∙◌, nat_eq}
-use Rattle.std.proofs.lemmas.Bool.{cases_eq, cases_Bool, eq-eqb, ne_eqb, cond-true, cond-false, false≢true}
+use Rattle.std.proofs.Common.{◌≡◌, ◌≢◌, ℕ, arith, ◌≤◌, Bool, true, false, cond, List, [], ◌∷◌, ◌++◌, map, Option, Some, None, IsSome, is_some, inl, inr, refl, sym, ap, subst, ◌∙◌, nat_eq}
+use Rattle.std.proofs.lemmas.Bool.{cases_Bool, false≢true}
+use Rattle.std.proofs.lemmas.Bool.Decides.{nat_tests}
 use Rattle.std.proofs.lemmas.List.{map-append}
 use Rattle.std.specs.Cmp.{IsEquivalence}
 use Rattle.std.specs.FinMap.{FinMap, get, insert, remove, len, empty, get-empty}
@@ -9,24 +10,24 @@ use Rattle.std.specs.Option.{option_map, option_and_then, option_map_or}
 use Rattle.std.specs.Ordering.{nat_cmp}
 use Rattle.std.specs.Prelude.{IfSome, option_to_list}
 use Rattle.moka_store.proofs.TableCalls.{get-records, get-places, record_row, placed_row, shows-inserted, shows-stored, shows-forgotten, with_stored-changes, count-with_stored}
-use Rattle.moka_store.proofs.TableMaps.{alters-set, numbered-after}
+use Rattle.moka_store.proofs.TableMaps.{read-of, made-of, alters-set, numbered-after}
 use Rattle.moka_store.proofs.Gets.{option-cases, some_is, get-inserted, len-kept}
 use Rattle.moka_store.specs.declared.table.membership.Membership.{Membership}
-use Rattle.moka_store.specs.RecordTable.{Row}
-use Rattle.moka_store.specs.RecordTable.{Table, row_at, number_at, stored_at, membership_at, with_stored, ChangesAt, records_of, places_of}
+use Rattle.moka_store.specs.RecordTable.{Row, Table, row_at, number_at, stored_at, membership_at, with_stored, ChangesAt, records_of, places_of}
 use Rattle.moka_store.proofs.Keys.{index-same, index-added, index-removed}
 use Rattle.moka_store.proofs.Nodes.{in-nodes, node-in, lookup-remove, distinct-remove}
 use Rattle.moka_store.proofs.Orders.{slot-there, stays-row}
-use Rattle.moka_store.proofs.Slots.{off-nodes, listed-kept, listed-added, listed-removed, listed-moved, listed-empty}
+use Rattle.moka_parts.proofs.Options.{mapped_is_some}
+use Rattle.moka_store.proofs.Slots.{slot-row, off-nodes, listed-kept, listed-added, listed-removed, listed-moved, listed-empty}
 use Rattle.moka_store.proofs.Timed.{untimed}
-use Rattle.moka_store.proofs.Ties.{read-other, read-same, named-changed, named-gone, access-kept, access-off, node_row, access-of, counted-row, without-row, unlisted-from}
-use Rattle.moka_parts.proofs.Lookup.{record_of_key_found, absent_key, present_key}
+use Rattle.moka_store.proofs.Ties.{read-other, read-same, named-changed, access-kept, access-off, access-of, counted-row, without-row, unlisted-from}
+use Rattle.moka_parts.proofs.Lookup.{record_of_key_found, absent_key}
 use Rattle.moka_wheel.specs.Wheel.{Timer}
 use Rattle.moka_store.specs.Listing.{Listing}
 use Rattle.moka_store.specs.Timing.{Timing}
 use Rattle.moka_store.specs.declared.store.Handle.{Handle}
 use Rattle.moka_store.specs.Store.{IsOneEach, IsHandle, ChangesRecord}
-use Rattle.moka_store.specs.StoreRows.{key_in, key_at, has_key_at, access_in, access_at, member_in, member_at, written_of, cursor_of, timers_of}
+use Rattle.moka_store.specs.StoreRows.{key_in, key_at, has_key_at, access_in, access_at, member_in, member_at}
 use Rattle.moka_store.specs.StoreTies.{AreNarrow, KeyIndex, IsListed, IsIndex, IsTied, IsWritten, IsTimed, IsStore, kept_of}
 use Rattle.moka_store.specs.Weights.{IsWeighed}
 use Rattle.moka_parts.specs.declared.records.Member.{Member}
@@ -56,36 +57,7 @@ pub record Handled {K V : Type 0} (rows : List (Option (Row (Record K V)))) (pla
   pub stored_at_is : stored_at rows place ≡ Some stored
   pub record_is : get (records_of rows) number ≡ Some stored
 
--- the record of a key
-pub record KeyRow {K V : Type 0} (eq : K → K → Bool) (rows : List (Option (Row (Record K V)))) (key : K) (place : ℕ) : Type 0 where
-  pub row : Row (Record K V)
-  pub stored : Record K V
-  pub at_is : row_at rows place ≡ Some row
-  pub stored_is : row.stored ≡ Some stored
-  pub same : eq key stored.key ≡ true
-  pub record_is : get (records_of rows) row.number ≡ Some stored
-  pub place_is : get (places_of rows) row.number ≡ Some place
-
-key-row : {K V : Type 0} (o : Option (Row (Record K V))) (k : K) → option_and_then key_in o ≡ Some k → (row : Row (Record K V)) × (r : Record K V) × (o ≡ Some row) × (row.stored ≡ Some r) × (r.key ≡ k)
-key-row None k e = cc
-key-row {K} {V} (Some row) k e = elim (option-cases row.stored) as (λ _. (row' : Row (Record K V)) × (r : Record K V) × (Some row ≡ Some row') × (row'.stored ≡ Some r) × (r.key ≡ k)) [
-  | inl none ↦ let bad : None ≡ Some k = sym (ap (option_map (λ (r : Record K V). r.key)) none) ∙ e in cc
-  | inr r ↦
-      let same : Some r.0.key ≡ Some k = sym (ap (option_map (λ (r : Record K V). r.key)) r.1) ∙ e in
-      (row, r.0, refl, r.1, (let q : r.0.key ≡ k = cc in q))
-]
-
 module _ {K V : Type 0} (eq : K → K → Bool) (rows : List (Option (Row (Record K V)))) (index : KeyIndex K) (nodes : List (ℕ × ℕ)) (t : IsTied eq rows index nodes) where
-  -- the test of a record's key is one of the place's key
-  key-test : (key : K) (place : ℕ) → option_map_or (eq key) (key_at rows place) false ≡ has_key_at eq rows key place
-  key-test key place = elim (row_at rows place) as (λ o. option_map_or (eq key) (option_and_then key_in o) false ≡ option_map_or (λ r. eq key r.key) (option_and_then (λ row. row.stored) o) false) [
-    | None ↦ refl
-    | Some row ↦ elim row.stored as (λ s. option_map_or (eq key) (option_map (λ r. r.key) s) false ≡ option_map_or (λ r. eq key r.key) s false) [
-      | None ↦ refl
-      | Some r ↦ refl
-    ]
-  ]
-
   pub placed : (place number : ℕ) → get (places_of rows) number ≡ Some place → Placed rows place number
   placed place number h = let w = placed_row rows t.numbered place number h in record { row = w.0; at_is = w.1; number_is = w.2; number_at_is = ap (λ o. option_map_or (λ (row : Row (Record K V)). row.number) o 0) w.1 ∙ w.2 }
 
@@ -109,24 +81,8 @@ module _ {K V : Type 0} (eq : K → K → Bool) (rows : List (Option (Row (Recor
         let v = record_row rows t.numbered n p a in
         let w = record_row rows t.numbered m q b in
         let place = t.indexed.once v.0 w.0 p.key q.key (key-there v.0 v.1 p v.2 v.4) (key-there w.0 w.1 q w.2 w.4) e in
-        let both : Some v.1 ≡ Some w.1 = sym v.2 ∙ ap (row_at rows) place ∙ w.2 in
-        let same : v.1 ≡ w.1 = cc in
-        sym v.3 ∙ ap (λ (row : Row (Record K V)). row.number) same ∙ w.3;
+        cc;
   }
-
-  -- the record at a place that has the key
-  pub key-present : (key : K) (place : ℕ) → has_key_at eq rows key place ≡ true → KeyRow eq rows key place
-  key-present key place h = elim (option-cases (key_at rows place)) as (λ _. KeyRow eq rows key place) [
-    | inl none ↦ let bad : false ≡ true = sym (ap (λ o. option_map_or (eq key) o false) none) ∙ key-test key place ∙ h in cc
-    | inr k ↦
-        let r = key-row (row_at rows place) k.0 k.1 in
-        let test : eq key k.0 ≡ true = sym (ap (λ o. option_map_or (eq key) o false) k.1) ∙ key-test key place ∙ h in
-        record { row = r.0; stored = r.1; at_is = r.2; stored_is = r.3; same = ap (eq key) r.4 ∙ test; record_is = get-records rows t.numbered place r.0 r.2 ∙ r.3; place_is = get-places rows t.numbered place r.0 r.2 }
-  ]
-
-  -- it is the key's record
-  pub record-of-present : IsEquivalence eq → (key : K) (place : ℕ) → (w : KeyRow eq rows key place) → record_of_key eq (records_of rows) key ≡ Some w.stored
-  record-of-present laws key place w = present_key eq (records_of rows) key laws (one-each laws).one_each w.row.number w.stored w.record_is w.same
 
   -- a key that is at no place under its hash has no record
   pub record-of-absent : (key : K) → ((x : K) → eq key x ≡ true → index.hash_of x ≡ index.hash_of key) → ((p : ℕ) → get index.entries p ≡ Some (index.hash_of key) → has_key_at eq rows key p ≡ false) → record_of_key eq (records_of rows) key ≡ None
@@ -136,8 +92,8 @@ module _ {K V : Type 0} (eq : K → K → Bool) (rows : List (Option (Row (Recor
         let w = record_of_key_found eq (records_of rows) key r.0 r.1 in
         let v = record_row rows t.numbered w.0 r.0 w.1 in
         let there = key-there v.0 v.1 r.0 v.2 v.4 in
-        let hashed : get index.entries v.0 ≡ Some (index.hash_of key) = t.indexed.at v.0 ∙ ap (option_map index.hash_of) there ∙ ap Some (alike r.0.key w.2) in
-        let bad : true ≡ false = sym w.2 ∙ ap (λ o. option_map_or (eq key) o false) (sym there) ∙ key-test key v.0 ∙ none v.0 hashed in
+        let never = none v.0 (t.indexed.at v.0 ∙ ap (option_map index.hash_of) there ∙ ap Some (alike r.0.key w.2)) in
+        let test = ap (λ o. option_map_or (λ (r : Record K V). eq key r.key) o false) (ap (option_and_then (λ (row : Row (Record K V)). row.stored)) v.2 ∙ v.4) in
         cc
   ]
 
@@ -145,9 +101,9 @@ module _ {K V : Type 0} (eq : K → K → Bool) (rows : List (Option (Row (Recor
   pub key-fresh : (key : K) → record_of_key eq (records_of rows) key ≡ None → (p : ℕ) (x : K) → key_at rows p ≡ Some x → eq key x ≡ false
   key-fresh key none p x h = elim (cases_Bool (eq key x)) as (λ _. eq key x ≡ false) [
     | inl y ↦
-        let r = key-row (row_at rows p) x h in
-        let f = absent_key eq (records_of rows) key none r.0.number r.1 (get-records rows t.numbered p r.0 r.2 ∙ r.3) in
-        let bad : true ≡ false = sym y ∙ ap (eq key) (sym r.4) ∙ f in
+        let w = read-of key_in (row_at rows p) x h in
+        let r = made-of (λ (r : Record K V). r.key) w.0.stored x w.2 in
+        let other = absent_key eq (records_of rows) key none w.0.number r.0 (get-records rows t.numbered p w.0 w.1 ∙ r.1) in
         cc
     | inr f ↦ f
   ]
@@ -173,13 +129,13 @@ pub record NodeMember {K V : Type 0} (rows : List (Option (Row (Record K V)))) (
 module _ {K V : Type 0} (eq : K → K → Bool) (rows : List (Option (Row (Record K V)))) (index : KeyIndex K) (nodes : List (ℕ × ℕ)) (t : IsTied eq rows index nodes) where
   pub node-member : (slot place : ℕ) → lookup (nat_eq slot) nodes ≡ Some place → NodeMember rows nodes slot place
   node-member slot place h =
-      let w = node_row eq rows index nodes t (slot, place) (node-in nodes slot place h) in
+      let w = slot-row access_in rows nodes t.listed (slot, place) (node-in nodes slot place h) in
       record {
         row = w.row;
         at_is = w.at_is;
         place_is = get-places rows t.numbered place w.row w.at_is;
         member_is = ap (λ o. option_map_or member_in o (record { number = 0; counted = 0 })) w.at_is;
-        counted_is = ap is_some (counted-row eq rows index nodes t place w.row w.at_is ∙ ap (option_map (λ (m : Membership). m.counted)) w.membership_is);
+        counted_is = ap is_some (counted-row eq rows index nodes t place w.row w.at_is) ∙ mapped_is_some (λ (m : Membership). m.counted) w.row.membership ∙ sym (mapped_is_some (λ (m : Membership). m.access) w.row.membership) ∙ ap is_some w.slot_is;
       }
 
   module _ (place number : ℕ) (h : get (places_of rows) number ≡ Some place) where
@@ -227,11 +183,8 @@ module _ {K V : Type 0} (eq : K → K → Bool) (rows : List (Option (Row (Recor
         let bare : w.row.stored ≡ None = sym (get-records rows t.numbered place w.row w.at_is) ∙ ap (get (records_of rows)) w.number_is ∙ gone in
         let alone = unlisted w apart in
         let still = untimed rows timers timed place w.row w.at_is alone in
-        w.at_is
-        ∙ ap (λ (s : Option (Record K V)). Some (record w.row { stored = s })) bare
-        ∙ ap (λ (m : Option Membership). Some (record w.row { stored = None; membership = m })) alone
-        ∙ ap (λ (o : Option ℕ). Some (record w.row { stored = None; membership = None; timer = o })) still
-        ∙ ap (λ (n : ℕ). Some (let row : Row (Record K V) = record { number = n; stored = None; membership = None; timer = None } in row)) (w.number_is ∙ sym w.number_at_is)
+        let number : w.row.number ≡ number_at rows place = w.number_is ∙ sym w.number_at_is in
+        w.at_is ∙ (λ i. Some (record { number = number i; stored = bare i; membership = alone i; timer = still i }))
 
 -- ---- one lemma for each call
 
@@ -245,14 +198,11 @@ module _ {K V : Type 0} (eq : K → K → Bool) (laws : IsEquivalence eq) (rows 
       record {
         tied = record {
           numbered = (shows-inserted rows new place t.numbered r.number r vacant fresh c).numbered;
-          named = named-changed (row_at rows) (row_at new) place t.named row c (λ s e. let same : r ≡ s = cc in ap (λ (r : Record K V). r.number) (sym same));
+          named = named-changed (row_at rows) (row_at new) place t.named (Some row) c (λ s e. let same : r ≡ s = cc in ap (λ (r : Record K V). r.number) (sym same));
           indexed = index-added eq (key_at rows) (key_at new) index t.indexed place (read-other key_in (row_at rows) (row_at new) place (Some row) c) laws r.key (ap (option_and_then key_in) c.changed) unknown;
           listed = listed-kept access_in rows nodes t.listed new (read-same access_in (row_at rows) (row_at new) place (Some row) c (sym (ap (option_and_then access_in) vacant)));
         };
-        access = access-off rows new place (Some row) c nodes (λ m h e.
-            let w = in-nodes nodes m t.listed.distinct h in
-            let bad : None ≡ Some m.0 = sym (ap (option_and_then access_in) vacant) ∙ ap (access_at rows) (sym e) ∙ t.listed.linked.to_slot m.0 m.1 w in
-            cc);
+        access = access-off rows new place (Some row) c nodes (λ m h e. (let slot = t.listed.linked.to_slot m.0 m.1 (in-nodes nodes m t.listed.distinct h) in let none = ap (option_and_then access_in) vacant in cc));
       }
 
   module _ (was : Row (Record K V)) (at_is : row_at rows place ≡ Some was) where
@@ -271,7 +221,7 @@ module _ {K V : Type 0} (eq : K → K → Bool) (laws : IsEquivalence eq) (rows 
     same-record : (row : Row (Record K V)) → ChangesAt (row_at rows) (row_at new) place (Some row) → row.number ≡ was.number → row.stored ≡ was.stored → {after : List (ℕ × ℕ)} → IsListed access_in new after → IsTied eq new index after
     same-record row c number stored listed = record {
       numbered = numbered-after (alters-set t.numbered was row at_is number c);
-      named = named-changed (row_at rows) (row_at new) place t.named row c (λ r e. t.named.same place was r at_is (sym stored ∙ e) ∙ sym number);
+      named = named-changed (row_at rows) (row_at new) place t.named (Some row) c (λ r e. t.named.same place was r at_is (sym stored ∙ e) ∙ sym number);
       indexed = same-keys row c (ap (option_map (λ (r : Record K V). r.key)) stored);
       listed = listed;
     }
@@ -283,7 +233,7 @@ module _ {K V : Type 0} (eq : K → K → Bool) (laws : IsEquivalence eq) (rows 
         record {
           tied = record {
             numbered = numbered-after (alters-set t.numbered was row at_is refl c);
-            named = named-changed (row_at rows) (row_at new) place t.named row c (λ s e. let same : r ≡ s = cc in ap (λ (r : Record K V). r.number) (sym same) ∙ number ∙ t.named.same place was old at_is is);
+            named = named-changed (row_at rows) (row_at new) place t.named (Some row) c (λ s e. let same : r ≡ s = cc in ap (λ (r : Record K V). r.number) (sym same) ∙ number ∙ t.named.same place was old at_is is);
             indexed = same-keys row c (ap Some key ∙ sym (ap (option_map (λ (r : Record K V). r.key)) is));
             listed = same-members row c refl;
           };
@@ -297,7 +247,7 @@ module _ {K V : Type 0} (eq : K → K → Bool) (laws : IsEquivalence eq) (rows 
         record {
           tied = record {
             numbered = numbered-after (alters-set t.numbered was row at_is refl c);
-            named = named-changed (row_at rows) (row_at new) place t.named row c (λ s e. cc);
+            named = named-changed (row_at rows) (row_at new) place t.named (Some row) c (λ s e. cc);
             indexed = index-removed eq (key_at rows) (key_at new) index t.indexed place (read-other key_in (row_at rows) (row_at new) place (Some row) c) (ap (option_and_then key_in) c.changed);
             listed = same-members row c refl;
           };
@@ -339,10 +289,7 @@ module _ {K V : Type 0} (eq : K → K → Bool) (laws : IsEquivalence eq) (rows 
         record {
           tied = same-record row c refl refl l;
           access =
-              access-off rows new place (Some row) c after (λ k h e.
-              let there = l.linked.to_slot k.0 k.1 (in-nodes after k l.distinct h) in
-              let bad : None ≡ Some k.0 = sym (ap (option_and_then access_in) c.changed) ∙ ap (access_at new) (sym e) ∙ there in
-              cc)
+              access-off rows new place (Some row) c after (λ k h e. (let slot = l.linked.to_slot k.0 k.1 (in-nodes after k l.distinct h) in let none = ap (option_and_then access_in) c.changed in cc))
               ∙ ap (map (member_at rows)) is
               ∙ sym (without-row eq rows index nodes t place was at_is m member_is);
         }
@@ -359,16 +306,12 @@ module _ {K V : Type 0} (eq : K → K → Bool) (laws : IsEquivalence eq) (rows 
           access =
               ap (map (member_at new)) is ∙ map-append (member_at new) (remove_entry (nat_eq m.access) nodes) ((m.access, place) ∷ [])
               ∙ ap (λ l. l ++ member_at new (m.access, place) ∷ []) (access-off rows new place (Some row) c (remove_entry (nat_eq m.access) nodes) (λ k h e.
-              let d = distinct-remove (nat_eq m.access) nodes t.listed.distinct in
-              let found : lookup (nat_eq k.0) (remove_entry (nat_eq m.access) nodes) ≡ Some k.1 = in-nodes (remove_entry (nat_eq m.access) nodes) k d h in
+              let found = in-nodes (remove_entry (nat_eq m.access) nodes) k (distinct-remove (nat_eq m.access) nodes t.listed.distinct) h in
               let other = lookup-remove m.access k.0 nodes t.listed.distinct in
-              elim (cases_eq m.access k.0) as (λ _. ⊥) [
-                | inl s ↦ let bad : None ≡ Some k.1 = sym (other ∙ cond-true (nat_eq m.access k.0) None (lookup (nat_eq k.0) nodes) (eq-eqb m.access k.0 s)) ∙ found in cc
-                | inr ne ↦
-                    let was_in : lookup (nat_eq k.0) nodes ≡ Some k.1 = sym (other ∙ cond-false (nat_eq m.access k.0) None (lookup (nat_eq k.0) nodes) (ne_eqb m.access k.0 ne)) ∙ found in
-                    let both : Some m.access ≡ Some k.0 = sym there ∙ ap (access_at rows) (sym e) ∙ t.listed.linked.to_slot k.0 k.1 was_in in
-                    ne (cc)
-              ]))
+              let was_in : lookup (nat_eq k.0) nodes ≡ Some k.1 = grind (arith, nat_tests) in
+              let apart : m.access ≢ k.0 = grind (arith, nat_tests) in
+              let slot = t.listed.linked.to_slot k.0 k.1 was_in in
+              apart (cc)))
               ∙ ap (λ l. l ++ member_at new (m.access, place) ∷ []) (sym (without-row eq rows index nodes t place was at_is m member_is))
               ∙ ap (λ o. without_member was.number (map (member_at rows) nodes) ++ option_map_or member_in o (record { number = 0; counted = 0 }) ∷ []) c.changed;
         }
@@ -378,7 +321,7 @@ module _ {K V : Type 0} (eq : K → K → Bool) (laws : IsEquivalence eq) (rows 
     forgotten bare alone c = record {
       tied = record {
         numbered = (shows-forgotten rows new place t.numbered was at_is bare alone c).numbered;
-        named = named-gone (row_at rows) (row_at new) place t.named c;
+        named = named-changed (row_at rows) (row_at new) place t.named None c (λ r e. cc);
         indexed = index-same eq (key_at rows) (key_at new) index t.indexed (read-same key_in (row_at rows) (row_at new) place None c (sym (ap (option_and_then key_in) at_is ∙ ap (option_map (λ (r : Record K V). r.key)) bare)));
         listed = listed-kept access_in rows nodes t.listed new (read-same access_in (row_at rows) (row_at new) place None c (sym (ap (option_and_then access_in) at_is ∙ ap (option_map (λ (m : Membership). m.access)) alone)));
       };
@@ -426,34 +369,27 @@ module _ {K V S : Type 0} {hasher : S} (eq : K → K → Bool) (laws : IsEquival
       let c = with_stored-changes old.rows handle.place r at.row at.at_is in
       let ties = stored eq laws old.rows rows index nodes handle.place s.tied at.row at.at_is at.stored r at.stored_is n k c in
       let m = shows-stored old.rows rows handle.place s.tied.numbered at.row at.at_is r c in
-      let is : new.rows ≡ rows = ap (λ (t : Table (Record K V)). t.rows) e in
-      let records : records_of new.rows ≡ insert (records_of old.rows) handle.number r = ap records_of is ∙ m.records_is ∙ ap (λ n. insert (records_of old.rows) n r) at.number_is in
-      let places : places_of new.rows ≡ places_of old.rows = ap places_of is ∙ m.places_is in
+      let records : records_of rows ≡ insert (records_of old.rows) handle.number r = m.records_is ∙ ap (λ n. insert (records_of old.rows) n r) at.number_is in
       let stay = stays-row old.rows rows list timing.timers s.written s.timed s.tied.numbered m.numbered handle.place at.row (record at.row { stored = Some r }) at.at_is c refl refl refl refl in
-      let written = ap (λ rows. written_of rows list.nodes) is ∙ stay.written_is in
-      let cursor = ap (λ rows. cursor_of rows list.cursor) is ∙ stay.cursor_is in
-      let timers = ap (timers_of timing.timers) is ∙ stay.timers_is in
-      let access : map (member_at new.rows) nodes ≡ map (member_at old.rows) nodes = ap (λ rows. map (member_at rows) nodes) is ∙ ties.access in
-      let rowed : count_by is_some new.rows ≡ count_by is_some old.rows = ap (count_by is_some) is ∙ count-with_stored old.rows handle.place r in
-      let room : new.room ≡ old.room = ap (λ (t : Table (Record K V)). t.room) e in
-      record {
+      let rowed = count-with_stored old.rows handle.place r in
+      rw e (record {
         store = record {
-          tied = subst (λ rows. IsTied eq rows index nodes) (sym is) ties.tied;
-          written = subst (λ rows. IsWritten rows list) (sym is) stay.written;
-          timed = subst (λ rows. IsTimed rows timing.timers) (sym is) stay.timed;
+          tied = ties.tied;
+          written = stay.written;
+          timed = stay.timed;
           keyed = s.keyed ∙ sym (ap len records ∙ len-kept (records_of old.rows) handle.number r at.stored at.record_is);
           fits = subst (λ n. n ≤ most) (sym rowed) s.fits;
           few = s.few;
-          narrow = subst AreNarrow (sym places) s.narrow;
-          weighed = subst (λ members. IsWeighed members weight) (sym access) s.weighed;
+          narrow = subst AreNarrow (sym m.places_is) s.narrow;
+          weighed = subst (λ members. IsWeighed members weight) (sym ties.access) s.weighed;
         };
         step = λ x there.
             let same : at.stored ≡ x = (let y = at.record_is in cc) in
-            rw (records, access, written, timers, cursor, places, rowed, room, same) refl;
+            rw (records, ties.access, stay.written_is, stay.timers_is, stay.cursor_is, m.places_is, rowed, same) refl;
         stored = ap is_some (ap (λ m. get m handle.number) records ∙ get-inserted (records_of old.rows) handle.number r);
-        places = places;
-        access = access;
-      }
+        places = m.places_is;
+        access = ties.access;
+      })
 
   pub changed : (f : Record K V → Record K V) → ((r : Record K V) → (f r).number ≡ r.number) → ((r : Record K V) → (f r).key ≡ r.key) → ((r : Record K V) → stored_at old.rows handle.place ≡ Some r → new ≡ record old { rows = with_stored old.rows handle.place (f r) })
       → Changed hasher eq old new index nodes list timing keys spare most weight handle.number f
@@ -491,3 +427,8 @@ module _ {K V : Type 0} (eq : K → K → Bool) (laws : IsEquivalence eq) (rows 
         let there = get-places rows t.numbered w.0 w.1 w.2 in
         let bad : None ≡ Some w.0 = sym h ∙ ap (get (places_of rows)) (sym w.3) ∙ there in cc
   ]
+
+-- room for more changes nothing else
+pub store-grown : {K V : Type 0} {eq : K → K → Bool} {rows : List (Option (Row (Record K V)))} {index : KeyIndex K} {keys : ℕ} {nodes : List (ℕ × ℕ)} {list : Listing} {timing : Timing} {most weight : ℕ} → IsStore eq rows index keys nodes list timing most weight
+    → (list' : Listing) (timing' : Timing) (most' : ℕ) → IsWritten rows list' → IsTimed rows timing'.timers → most ≤ most' → IsStore eq rows index keys nodes list' timing' most' weight
+store-grown s list' timing' most' written timed more = record { tied = s.tied; written = written; timed = timed; keyed = s.keyed; fits = omega (arith, s.fits); few = s.few; narrow = s.narrow; weighed = s.weighed }

@@ -1,17 +1,17 @@
 -- What the maps of a table are after each change of one row.
 use Rattle.std.proofs.Common.{◌≡◌, ◌≢◌, ℕ, cond, length, count_by, arith, Option, Some, None, IsSome, is_some, List, [], inl, inr, refl, sym, ap, subst, ◌∙◌, ◌==◌}
-use Rattle.std.proofs.lemmas.Bool.{cases_lt, cases_eq, eq-eqb, ne_eqb, cond-true, cond-false, false≢true}
-use Rattle.std.proofs.lemmas.List.{get_or-set_same, get_or-set_other, set_past}
+use Rattle.std.proofs.lemmas.Bool.{cases_lt, eq-eqb, ne_eqb, cond-true, cond-false}
+use Rattle.std.proofs.lemmas.Bool.Decides.{nat_tests}
+use Rattle.std.proofs.lemmas.List.{get_or-set_same, get_or-set_other, set_past, set-get_or}
 use Rattle.std.proofs.lemmas.List.Sums.{sum_by-set}
 use Rattle.std.specs.Prelude.{slice_index_or, slice_set}
 use Rattle.std.specs.FinMap.{FinMap, empty, get, insert, remove}
 use Rattle.std.specs.Option.{option_map, option_and_then}
 use Rattle.std.specs.Ordering.{nat_cmp}
 use Rattle.moka_store.specs.declared.table.membership.Membership.{Membership}
-use Rattle.moka_store.specs.RecordTable.{Row}
-use Rattle.moka_store.specs.RecordTable.{altered, row_at, stored_at, membership_at, stored_if, find_at, with_stored, counted_in, records_of, counted_of, places_of, IsNumbered, ChangesAt}
+use Rattle.moka_store.specs.RecordTable.{Row, altered, row_at, stored_at, membership_at, stored_if, find_at, with_stored, counted_in, records_of, counted_of, places_of, IsNumbered, ChangesAt}
 use Rattle.moka_index.proofs.Maps.{option-cases}
-use Rattle.moka_store.proofs.TableMaps.{row_at-within, some_is, altered-same, get-map, map-found, alters-row, alters-set, alters-added, numbered-after, map-after, map-same}
+use Rattle.moka_store.proofs.TableMaps.{row_at-within, some_is, read-of, altered-same, get-map, map-found, alters-row, alters-set, alters-added, numbered-after, map-after, map-same}
 
 -- no number stands in two rows, and these are the maps
 pub record Shows {R : Type 0} (rows : List (Option (Row R))) (records : FinMap nat_cmp R) (counted places : FinMap nat_cmp ℕ) : Type 0 where
@@ -109,17 +109,17 @@ module _ {R : Type 0} (rows new : List (Option (Row R))) (place : ℕ) (d : IsNu
 module _ {R : Type 0} (rows : List (Option (Row R))) (place : ℕ) where
   -- the row that has a record
   pub stored_row : IsSome (stored_at rows place) → (row : Row R) × (stored : R) × (row_at rows place ≡ Some row) × (row.stored ≡ Some stored)
-  stored_row h = elim (option-cases (row_at rows place)) as (λ _. (row : Row R) × (stored : R) × (row_at rows place ≡ Some row) × (row.stored ≡ Some stored)) [
-    | inl none ↦ absurd (false≢true (sym (ap (λ o. is_some (option_and_then (λ (row : Row R). row.stored) o)) none) ∙ h))
-    | inr w ↦ let s = some_is w.0.stored (subst (λ o. IsSome (option_and_then (λ (row : Row R). row.stored) o)) w.1 h) in (w.0, s.0, w.1, s.1)
-  ]
+  stored_row h =
+      let s = some_is (stored_at rows place) h in
+      let w = read-of (λ (row : Row R). row.stored) (row_at rows place) s.0 s.1 in
+      (w.0, s.0, w.1, w.2)
 
   -- the row that is a member
   pub member_row : IsSome (membership_at rows place) → (row : Row R) × (m : Membership) × (row_at rows place ≡ Some row) × (row.membership ≡ Some m)
-  member_row h = elim (option-cases (row_at rows place)) as (λ _. (row : Row R) × (m : Membership) × (row_at rows place ≡ Some row) × (row.membership ≡ Some m)) [
-    | inl none ↦ absurd (false≢true (sym (ap (λ o. is_some (option_and_then (λ (row : Row R). row.membership) o)) none) ∙ h))
-    | inr w ↦ let s = some_is w.0.membership (subst (λ o. IsSome (option_and_then (λ (row : Row R). row.membership) o)) w.1 h) in (w.0, s.0, w.1, s.1)
-  ]
+  member_row h =
+      let s = some_is (membership_at rows place) h in
+      let w = read-of (λ (row : Row R). row.membership) (row_at rows place) s.0 s.1 in
+      (w.0, s.0, w.1, w.2)
 
 module _ {R : Type 0} (rows : List (Option (Row R))) (d : IsNumbered (row_at rows)) where
   -- what the records have under a row's number
@@ -145,33 +145,25 @@ module _ {R : Type 0} (rows : List (Option (Row R))) (d : IsNumbered (row_at row
       let e : w.place ≡ place = (let x = w.value_is in cc) in
       (w.row, ap (row_at rows) (sym e) ∙ w.at_is, w.number_is)
 
-  stored_if-same : (number : ℕ) (row : Row R) → row.number ≡ number → stored_if number row ≡ row.stored
-  stored_if-same number row e = cond-true (row.number == number) row.stored None (eq-eqb row.number number e)
-
-  stored_if-other : (number : ℕ) (row : Row R) → row.number ≢ number → stored_if number row ≡ None
-  stored_if-other number row ne = cond-false (row.number == number) row.stored None (ne_eqb row.number number ne)
-
   pub find_at-found : (place number : ℕ) → get (places_of rows) number ≡ Some place → find_at rows place number ≡ get (records_of rows) number
   find_at-found place number h =
       let w = placed_row place number h in
-      ap (option_and_then (stored_if number)) w.1 ∙ stored_if-same number w.0 w.2 ∙ sym (get-records place w.0 w.1) ∙ ap (get (records_of rows)) w.2
+      let own : stored_if number w.0 ≡ w.0.stored = cond-true (w.0.number == number) w.0.stored None (eq-eqb w.0.number number w.2) in
+      ap (option_and_then (stored_if number)) w.1 ∙ own ∙ sym (get-records place w.0 w.1) ∙ ap (get (records_of rows)) w.2
 
   pub find_at-elsewhere : (place number : ℕ) → get (places_of rows) number ≢ Some place → find_at rows place number ≡ None
   find_at-elsewhere place number h = elim (option-cases (row_at rows place)) as (λ _. find_at rows place number ≡ None) [
     | inl none ↦ ap (option_and_then (stored_if number)) none
-    | inr w ↦ ap (option_and_then (stored_if number)) w.1 ∙ stored_if-other number w.0 (λ e. h (sym (ap (get (places_of rows)) e) ∙ get-places place w.0 w.1))
+    | inr w ↦ ap (option_and_then (stored_if number)) w.1 ∙ cond-false (w.0.number == number) w.0.stored None (ne_eqb w.0.number number (λ e. h (sym (ap (get (places_of rows)) e) ∙ get-places place w.0 w.1)))
   ]
 
-module _ {R : Type 0} (rows : List (Option (Row R))) (d : IsNumbered (row_at rows)) where
   -- where a record is found, the number is placed
   pub find_at-placed : (place number : ℕ) → IsSome (find_at rows place number) → get (places_of rows) number ≡ Some place
-  find_at-placed place number h = elim (option-cases (row_at rows place)) as (λ _. get (places_of rows) number ≡ Some place) [
-    | inl none ↦ absurd (false≢true (sym (ap (λ o. is_some (option_and_then (stored_if number) o)) none) ∙ h))
-    | inr w ↦ elim (cases_eq w.0.number number) as (λ _. get (places_of rows) number ≡ Some place) [
-      | inl e ↦ sym (ap (get (places_of rows)) e) ∙ get-places rows d place w.0 w.1
-      | inr ne ↦ absurd (false≢true (sym (ap is_some (ap (option_and_then (stored_if number)) w.1 ∙ stored_if-other rows d number w.0 ne)) ∙ h))
-    ]
-  ]
+  find_at-placed place number h =
+      let s = some_is (find_at rows place number) h in
+      let w = read-of (stored_if number) (row_at rows place) s.0 s.1 in
+      let own : w.0.number ≡ number = grind (arith, nat_tests) in
+      sym (ap (get (places_of rows)) own) ∙ get-places place w.0 w.1
 
 -- ---- a record written through a reference
 
@@ -194,17 +186,11 @@ module _ {R : Type 0} (rows : List (Option (Row R))) (place : ℕ) (stored : R) 
     others = λ p ne. get_or-set_other rows place p _ None ne;
   }
 
-  with_stored-none : row_at rows place ≡ None → (p : ℕ) → row_at (with_stored rows place stored) p ≡ row_at rows p
-  with_stored-none e p = elim (cases_eq p place) as (λ _. row_at (with_stored rows place stored) p ≡ row_at rows p) [
-    | inl q ↦ ap (row_at (with_stored rows place stored)) q ∙ elim (cases_lt place (length rows)) as (λ _. row_at (with_stored rows place stored) place ≡ row_at rows p) [
-      | inl lt ↦ get_or-set_same rows place _ None lt ∙ ap (option_map {T = Row R} (λ row. record row { stored = Some stored })) e ∙ sym e ∙ ap (row_at rows) (sym q)
-      | inr le ↦ ap (λ l. row_at l place) (set_past rows place _ le) ∙ ap (row_at rows) (sym q)
-    ]
-    | inr ne ↦ get_or-set_other rows place p _ None ne
-  ]
+  with_stored-none : row_at rows place ≡ None → with_stored rows place stored ≡ rows
+  with_stored-none e = ap (λ o. slice_set rows place (option_map {T = Row R} (λ row. record row { stored = Some stored }) o)) e ∙ ap (slice_set rows place) (sym e) ∙ set-get_or rows place None
 
   pub numbered-with_stored : IsNumbered (row_at rows) → IsNumbered (row_at (with_stored rows place stored))
   numbered-with_stored d = elim (option-cases (row_at rows place)) as (λ _. IsNumbered (row_at (with_stored rows place stored))) [
-    | inl none ↦ record { same = λ p q a b pe qe s. d.same p q a b (sym (with_stored-none none p) ∙ pe) (sym (with_stored-none none q) ∙ qe) s }
+    | inl none ↦ subst (λ l. IsNumbered (row_at l)) (sym (with_stored-none none)) d
     | inr w ↦ numbered-after (alters-set d w.0 (record w.0 { stored = Some stored }) w.1 refl (with_stored-changes w.0 w.1))
   ]

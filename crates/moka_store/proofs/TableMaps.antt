@@ -1,15 +1,17 @@
 -- What the maps of a table answer, and how they follow a change of one row.
-use Rattle.std.proofs.Common.{◌≡◌, ◌≢◌, ℕ, zero, suc, ◌<◌, ◌≤◌, List, Option, Some, None, length, inl, inr, refl, sym, ap, ◌∙◌, arith}
+use Rattle.std.proofs.Common.{◌≡◌, ◌≢◌, ℕ, ◌<◌, List, [], ◌∷◌, ◌++◌, get_or, arith, Option, Some, None, length, inl, inr, refl, sym, ap, ◌∙◌}
+use Rattle.std.proofs.lemmas.Grind.{common_steps}
 use Rattle.std.proofs.lemmas.List.{get_or_past}
 use Rattle.std.proofs.lemmas.Bool.{cases_lt, cases_eq, false≢true}
 use Rattle.std.specs.Prelude.{slice_index_or, IsSome}
-use Rattle.std.specs.FinMap.{FinMap, get, insert, get-empty, same_map, nat_cmp-IsAntisymmetric}
-use Rattle.std.specs.Option.{option_and_then}
+use Rattle.std.specs.FinMap.{FinMap, get, same_map, nat_cmp-IsAntisymmetric}
+use Rattle.std.specs.Option.{option_map, option_and_then}
+use Rattle.std.proofs.lemmas.Option.{same_Some}
 use Rattle.std.specs.Ordering.{nat_cmp}
 use Rattle.std.specs.Cmp.{nat_cmp_total}
-use Rattle.moka_index.proofs.Maps.{option-cases, option-same, get-inserted, get-past_insert, get-removed, get-past_remove}
-use Rattle.moka_store.specs.RecordTable.{Row}
-use Rattle.moka_store.specs.RecordTable.{altered, put_some, put_row, upto, map_of, row_at, IsNumbered, ChangesAt}
+use Rattle.moka_index.specs.EntryMap.{IsApart}
+use Rattle.moka_index.proofs.Maps.{option-same, still-apart, found-upto, has-upto, get-inserted, get-past_insert, get-removed, get-past_remove}
+use Rattle.moka_store.specs.RecordTable.{Row, altered, answer_at, map_of, row_at, IsNumbered, ChangesAt}
 
 -- ---- a map that answers anew under one number
 
@@ -31,71 +33,21 @@ module _ {X : Type 0} where
   pub altered-same : (m : FinMap nat_cmp X) (n : ℕ) (o : Option X) → get m n ≡ o → altered m n o ≡ m
   altered-same m n o h = sym (is-altered m m n o h (λ q _. refl))
 
--- ---- the map of the first places
+-- ---- what is there
 
-module _ {R X : Type 0} (f : ℕ → Row R → Option X) (at : ℕ → Option (Row R)) where
-  -- some row has this number, and f answers x there
-  pub record Holds (n : ℕ) (x : X) : Type 0 where
-    pub place : ℕ
-    pub row : Row R
-    pub at_is : at place ≡ Some row
-    pub number_is : row.number ≡ n
-    pub value_is : f place row ≡ Some x
+pub some_is : {X : Type 0} (o : Option X) → IsSome o → (x : X) × (o ≡ Some x)
+some_is None h = absurd (false≢true h)
+some_is (Some x) h = (x, refl)
 
-module _ {R X : Type 0} (f : ℕ → Row R → Option X) (at : ℕ → Option (Row R)) where
-  found-some : (k : ℕ) (row : Row R) (o : Option X) (m : FinMap nat_cmp X) (n : ℕ) (x : X) → at k ≡ Some row → f k row ≡ o → ((n : ℕ) (x : X) → get m n ≡ Some x → Holds f at n x) → get (put_some row.number o m) n ≡ Some x → Holds f at n x
-  found-some k row None m n x e fe ih h = ih n x h
-  found-some k row (Some y) m n x e fe ih h = elim (cases_eq row.number n) as (λ _. Holds f at n x) [
-    | inl s ↦ record { place = k; row = row; at_is = e; number_is = s; value_is = fe ∙ (let g = get-inserted m row.number y in let t = ap (get (insert m row.number y)) s in cc) }
-    | inr ne ↦ ih n x (sym (get-past_insert m row.number y n (λ q. ne (sym q))) ∙ h)
-  ]
+-- what is read of something was read of what is there
+pub read-of : {X Y : Type 0} (f : X → Option Y) (o : Option X) (y : Y) → option_and_then f o ≡ Some y → (x : X) × (o ≡ Some x) × (f x ≡ Some y)
+read-of f None y h = cc
+read-of f (Some x) y h = (x, refl, h)
 
-  found-put : (k : ℕ) (o : Option (Row R)) (m : FinMap nat_cmp X) (n : ℕ) (x : X) → at k ≡ o → ((n : ℕ) (x : X) → get m n ≡ Some x → Holds f at n x) → get (put_row f k o m) n ≡ Some x → Holds f at n x
-  found-put k None m n x e ih h = ih n x h
-  found-put k (Some row) m n x e ih h = found-some k row (f k row) m n x e refl ih h
-
-  found-upto : (k n : ℕ) (x : X) → get (upto f at k) n ≡ Some x → Holds f at n x
-  found-upto zero n x h = let none = get-empty {X = X} nat_cmp n in cc
-  found-upto (suc k) n x h = found-put k (at k) (upto f at k) n x refl (found-upto k) h
-
-  -- the number of this row is not among those that the map gets from another place
-  has-past_some : (r n : ℕ) (o : Option X) (m : FinMap nat_cmp X) → r ≢ n → get (put_some r o m) n ≡ get m n
-  has-past_some r n None m h = refl
-  has-past_some r n (Some y) m h = get-past_insert m r y n (λ q. h (sym q))
-
-  has-past : (k : ℕ) (o : Option (Row R)) (m : FinMap nat_cmp X) (n : ℕ) → ((row : Row R) → o ≡ Some row → row.number ≢ n) → get (put_row f k o m) n ≡ get m n
-  has-past k None m n h = refl
-  has-past k (Some row) m n h = has-past_some row.number n (f k row) m (h row refl)
-
-  -- the rows before its place leave a row's number free
-  pub upto-fresh : IsNumbered at → (k p : ℕ) (row : Row R) → k ≤ p → at p ≡ Some row → get (upto f at k) row.number ≡ None
-  upto-fresh d zero p row le e = get-empty nat_cmp row.number
-  upto-fresh d (suc k) p row le e =
-      has-past k (at k) (upto f at k) row.number (λ other there s. let same : k ≡ p = d.same k p other row there e s in omega arith)
-      ∙ upto-fresh d k p row (omega arith) e
-
-  -- places without a row add nothing
-  pub upto-past : (j k : ℕ) → k ≤ j → ((p : ℕ) → k ≤ p → at p ≡ None) → upto f at j ≡ upto f at k
-  upto-past zero k le none = let same : zero ≡ k = omega arith in ap (upto f at) same
-  upto-past (suc j) k le none = elim (cases_eq (suc j) k) as (λ _. upto f at (suc j) ≡ upto f at k) [
-    | inl same ↦ ap (upto f at) same
-    | inr apart ↦ ap (λ o. put_row f j o (upto f at j)) (none j (omega arith)) ∙ upto-past j k (omega arith) none
-  ]
-
-  put-own : (n : ℕ) (o : Option X) (m : FinMap nat_cmp X) → get m n ≡ None → get (put_some n o m) n ≡ o
-  put-own n None m none = none
-  put-own n (Some x) m none = get-inserted m n x
-
-  get-upto : IsNumbered at → (k p : ℕ) (row : Row R) → p < k → at p ≡ Some row → get (upto f at k) row.number ≡ f p row
-  get-upto d zero p row h e = absurd (omega arith)
-  get-upto d (suc k) p row h e = elim (cases_eq p k) as (λ _. get (put_row f k (at k) (upto f at k)) row.number ≡ f p row) [
-    | inl s ↦
-        ap (λ o. get (put_row f k o (upto f at k)) row.number) (ap at (sym s) ∙ e)
-        ∙ put-own row.number (f k row) (upto f at k) (upto-fresh d k p row (omega arith) e) ∙ ap (λ p. f p row) (sym s)
-    | inr ne ↦ has-past k (at k) (upto f at k) row.number (λ other oe s. ne (sym (d.same k p other row oe e s))) ∙ get-upto d k p row (omega arith) e
-  ]
-
--- ---- the map of a table's rows
+-- so is what is made of something
+pub made-of : {X Y : Type 0} (f : X → Y) (o : Option X) (y : Y) → option_map f o ≡ Some y → (x : X) × (o ≡ Some x) × (f x ≡ y)
+made-of f None y h = cc
+made-of f (Some x) y h = (x, refl, same_Some (f x) y h)
 
 pub row_at-within : {X : Type 0} (rows : List (Option X)) (p : ℕ) (x : X) → slice_index_or rows p None ≡ Some x → p < length rows
 row_at-within rows p x h = elim (cases_lt p (length rows)) as (λ _. p < length rows) [
@@ -103,33 +55,69 @@ row_at-within rows p x h = elim (cases_lt p (length rows)) as (λ _. p < length 
   | inr le ↦ let none = get_or_past rows p None le in cc
 ]
 
+-- one more element changes no other place
+pub get_or_past_push : {X : Type 0} (xs : List X) (x d : X) (i : ℕ) → i ≢ length xs → get_or (xs ++ x ∷ []) i d ≡ get_or xs i d
+get_or_past_push xs x d i ne = grind (arith, common_steps)
+
+-- ---- the map of a table's rows
+
 module _ {R X : Type 0} (f : ℕ → Row R → Option X) (rows : List (Option (Row R))) where
+  -- some row has this number, and f answers x there
+  pub record Answers (n : ℕ) (x : X) : Type 0 where
+    pub place : ℕ
+    pub row : Row R
+    pub at_is : row_at rows place ≡ Some row
+    pub number_is : row.number ≡ n
+    pub value_is : f place row ≡ Some x
+
+  pub answer-of : (place : ℕ) (row : Row R) (x : X) → row_at rows place ≡ Some row → f place row ≡ Some x → answer_at f rows place ≡ Some (row.number, x)
+  answer-of place row x at_is is = ap (option_and_then (λ (row : Row R). option_map (λ (x : X). (row.number, x)) (f place row))) at_is ∙ ap (option_map (λ (x : X). (row.number, x))) is
+
+  row-of : (place n : ℕ) (x : X) → answer_at f rows place ≡ Some (n, x) → (row : Row R) × (row_at rows place ≡ Some row) × (row.number ≡ n) × (f place row ≡ Some x)
+  row-of place n x h =
+      let r = read-of (λ (row : Row R). option_map (λ (x : X). (row.number, x)) (f place row)) (row_at rows place) (n, x) h in
+      let y = made-of (λ (x : X). (r.0.number, x)) (f place r.0) (n, x) r.2 in
+      (r.0, r.1, ap (λ (e : ℕ × X). e.0) y.2, y.1 ∙ ap (λ (e : ℕ × X). Some e.1) y.2)
+
+  -- rows with numbers of their own have answers under numbers of their own
+  pub answers-apart : IsNumbered (row_at rows) → IsApart (answer_at f rows)
+  answers-apart d = record { same = λ p q a b pa qb s. let v = row-of p a.0 a.1 pa in let w = row-of q b.0 b.1 qb in d.same p q v.0 w.0 v.1 w.1 (v.2 ∙ s ∙ sym w.2) }
+
   -- the row that the map's value is of
-  pub map-found : (n : ℕ) (x : X) → get (map_of f rows) n ≡ Some x → Holds f (row_at rows) n x
-  map-found n x h = found-upto f (row_at rows) (length rows) n x h
+  pub map-found : (n : ℕ) (x : X) → get (map_of f rows) n ≡ Some x → Answers n x
+  map-found n x h =
+      let w = found-upto (answer_at f rows) (length rows) n x h in
+      let r = row-of w.place n x w.at_is in
+      record { place = w.place; row = r.0; at_is = r.1; number_is = r.2; value_is = r.3 }
+
+  map-has : IsNumbered (row_at rows) → (place : ℕ) (row : Row R) (x : X) → row_at rows place ≡ Some row → f place row ≡ Some x → get (map_of f rows) row.number ≡ Some x
+  map-has d place row x at_is is = has-upto (answer_at f rows) (answers-apart d) (length rows) row.number x place (row_at-within rows place row at_is) (answer-of place row x at_is is)
+
+  -- under a number that no other place has, the map has what this place answers
+  get-own : IsNumbered (row_at rows) → (place n : ℕ) → ((row : Row R) → row_at rows place ≡ Some row → row.number ≡ n)
+      → ((p : ℕ) (row : Row R) → p ≢ place → row_at rows p ≡ Some row → row.number ≢ n) → get (map_of f rows) n ≡ option_and_then (f place) (row_at rows place)
+  get-own d place n own apart = option-same (get (map_of f rows) n) (option_and_then (f place) (row_at rows place))
+      (λ x h.
+      let w = map-found n x h in
+      elim (cases_eq w.place place) as (λ _. option_and_then (f place) (row_at rows place) ≡ Some x) [
+        | inl s ↦ ap (option_and_then (f place)) (ap (row_at rows) (sym s) ∙ w.at_is) ∙ ap (λ p. f p w.row) (sym s) ∙ w.value_is
+        | inr ne ↦ absurd (apart w.place w.row ne w.at_is w.number_is)
+      ])
+      (λ x h. let r = read-of (f place) (row_at rows place) x h in ap (get (map_of f rows)) (sym (own r.0 r.1)) ∙ map-has d place r.0 x r.1 r.2)
 
   -- what the map has under a row's number
   pub get-map : IsNumbered (row_at rows) → (p : ℕ) (row : Row R) → row_at rows p ≡ Some row → get (map_of f rows) row.number ≡ f p row
-  get-map d p row e = get-upto f (row_at rows) d (length rows) p row (row_at-within rows p row e) e
+  get-map d p row e =
+      get-own d p row.number (λ r h. ap (λ (r : Row R). r.number) (same_Some r row (sym h ∙ e))) (λ q r ne h s. ne (d.same q p r row h e s))
+      ∙ ap (option_and_then (f p)) e
 
-  -- under a number that no other place has, the map has what this place answers
-  get-own : IsNumbered (row_at rows) → (place n : ℕ) (o : Option (Row R)) → row_at rows place ≡ o → ((row : Row R) → o ≡ Some row → row.number ≡ n)
-      → ((p : ℕ) (row : Row R) → p ≢ place → row_at rows p ≡ Some row → row.number ≢ n) → get (map_of f rows) n ≡ option_and_then (f place) o
-  get-own d place n (Some row) at_is own apart = ap (get (map_of f rows)) (sym (own row refl)) ∙ get-map d place row at_is
-  get-own d place n None at_is own apart = elim (option-cases (get (map_of f rows) n)) as (λ _. get (map_of f rows) n ≡ None) [
-    | inl none ↦ none
-    | inr x ↦
-        let w = map-found n x.0 x.1 in
-        absurd (apart w.place w.row (λ s. let bad : None ≡ Some w.row = sym at_is ∙ ap (row_at rows) (sym s) ∙ w.at_is in cc) w.at_is w.number_is)
-  ]
-
-  -- where all places but one answer the same, so do the maps under all numbers but its own
-  get-past : (g : ℕ → Row R → Option X) (new : List (Option (Row R))) → IsNumbered (row_at new) → (place n : ℕ) → ((p : ℕ) → p ≢ place → row_at new p ≡ row_at rows p) → ((row : Row R) → row_at rows place ≡ Some row → row.number ≡ n)
-      → ((p : ℕ) (row : Row R) → p ≢ place → row_at rows p ≡ Some row → g p row ≡ f p row) → (q : ℕ) → q ≢ n → (x : X) → get (map_of f rows) q ≡ Some x → get (map_of g new) q ≡ Some x
-  get-past g new d place n others own same q away x h =
-      let w = map-found q x h in
-      let off : w.place ≢ place = (λ s. away (sym w.number_is ∙ own w.row (ap (row_at rows) (sym s) ∙ w.at_is))) in
-      ap (get (map_of g new)) (sym w.number_is) ∙ get-upto g (row_at new) d (length new) w.place w.row (row_at-within new w.place w.row (others w.place off ∙ w.at_is)) (others w.place off ∙ w.at_is) ∙ same w.place w.row off w.at_is ∙ w.value_is
+-- where all places but one answer the same, so do the maps under all numbers but its own
+get-past : {R X : Type 0} (f g : ℕ → Row R → Option X) (rows new : List (Option (Row R))) → IsNumbered (row_at new) → (place n : ℕ) → ((p : ℕ) → p ≢ place → row_at new p ≡ row_at rows p) → ((row : Row R) → row_at rows place ≡ Some row → row.number ≡ n)
+    → ((p : ℕ) (row : Row R) → p ≢ place → row_at rows p ≡ Some row → g p row ≡ f p row) → (q : ℕ) → q ≢ n → (x : X) → get (map_of f rows) q ≡ Some x → get (map_of g new) q ≡ Some x
+get-past f g rows new d place n others own same q away x h =
+    let w = map-found f rows q x h in
+    let off : w.place ≢ place = (λ s. away (sym w.number_is ∙ own w.row (ap (row_at rows) (sym s) ∙ w.at_is))) in
+    ap (get (map_of g new)) (sym w.number_is) ∙ map-has g new d w.place w.row x (others w.place off ∙ w.at_is) (same w.place w.row off w.at_is ∙ w.value_is)
 
 -- what stands at a place becomes this, with the same number if both are rows, and no other row has that number
 pub record Alters {R : Type 0} (rows new : List (Option (Row R))) (place n : ℕ) (now : Option (Row R)) : Type 0 where
@@ -145,54 +133,41 @@ module _ {R : Type 0} {rows new : List (Option (Row R))} {place : ℕ} (d : IsNu
   alters-row was now at_is number c = record {
     numbered = d;
     changes = c;
-    was = λ row e. let both : Some row ≡ Some was = sym e ∙ at_is in let same : row ≡ was = cc in ap (λ r. r.number) same;
+    was = λ row e. cc;
     is = number;
     apart = λ p row ne e s. ne (d.same p place row was e at_is s);
   }
 
   -- a row changes and keeps its number
   pub alters-set : (was row : Row R) → row_at rows place ≡ Some was → row.number ≡ was.number → ChangesAt (row_at rows) (row_at new) place (Some row) → Alters rows new place was.number (Some row)
-  alters-set was row at_is number c = alters-row was (Some row) at_is (λ r e. let same : r ≡ row = cc in ap (λ r. r.number) same ∙ number) c
+  alters-set was row at_is number c = alters-row was (Some row) at_is (λ r e. cc) c
 
   -- a row comes where there was none, with a number that no row has
   pub alters-added : (row : Row R) → row_at rows place ≡ None → get (map_of (λ p _. Some p) rows) row.number ≡ None → ChangesAt (row_at rows) (row_at new) place (Some row) → Alters rows new place row.number (Some row)
   alters-added row vacant fresh c = record {
     numbered = d;
     changes = c;
-    was = λ r e. let bad : None ≡ Some r = sym vacant ∙ e in cc;
-    is = λ r e. let same : r ≡ row = cc in ap (λ r. r.number) same;
+    was = λ r e. cc;
+    is = λ r e. cc;
     apart = λ p r _ e s. let there = get-map (λ p _. Some p) rows d p r e in let t = ap (get (map_of (λ (p : ℕ) (_ : Row R). Some p) rows)) s in cc;
   }
 
 module _ {R : Type 0} {rows new : List (Option (Row R))} {place n : ℕ} {now : Option (Row R)} (a : Alters rows new place n now) where
   pub numbered-after : IsNumbered (row_at new)
   numbered-after = record {
-    same = λ p q b c pe qe s. elim (cases_eq p place) as (λ _. p ≡ q) [
-      | inl pi ↦ elim (cases_eq q place) as (λ _. p ≡ q) [
-        | inl qi ↦ pi ∙ sym qi
-        | inr qn ↦ absurd (a.apart q c qn (sym (a.changes.others q qn) ∙ qe) (sym s ∙ a.is b (sym a.changes.changed ∙ ap (row_at new) (sym pi) ∙ pe)))
-      ]
-      | inr pn ↦ elim (cases_eq q place) as (λ _. p ≡ q) [
-        | inl qi ↦ absurd (a.apart p b pn (sym (a.changes.others p pn) ∙ pe) (s ∙ a.is c (sym a.changes.changed ∙ ap (row_at new) (sym qi) ∙ qe)))
-        | inr qn ↦ a.numbered.same p q b c (sym (a.changes.others p pn) ∙ pe) (sym (a.changes.others q qn) ∙ qe) s
-      ]
-    ];
+    same = still-apart (λ (row : Row R). row.number) (row_at rows) (row_at new) place n a.changes.others a.numbered.same (λ row e. a.is row (sym a.changes.changed ∙ e)) a.apart;
   }
 
   -- the map of another function, which answers the same at all other places
   pub map-anew : {X : Type 0} (f g : ℕ → Row R → Option X) → ((p : ℕ) (row : Row R) → p ≢ place → row_at rows p ≡ Some row → g p row ≡ f p row) → map_of g new ≡ altered (map_of f rows) n (option_and_then (g place) now)
   map-anew f g same = is-altered (map_of f rows) (map_of g new) n (option_and_then (g place) now)
-      (get-own g new numbered-after place n now a.changes.changed a.is (λ p row ne e. a.apart p row ne (sym (a.changes.others p ne) ∙ e)))
+      (get-own g new numbered-after place n (λ row e. a.is row (sym a.changes.changed ∙ e)) (λ p row ne e. a.apart p row ne (sym (a.changes.others p ne) ∙ e)) ∙ ap (option_and_then (g place)) a.changes.changed)
       (λ q away. option-same (get (map_of g new) q) (get (map_of f rows) q)
-      (get-past g new f rows a.numbered place n (λ p ne. sym (a.changes.others p ne)) (λ row e. a.is row (sym a.changes.changed ∙ e)) (λ p row ne e. sym (same p row ne (sym (a.changes.others p ne) ∙ e))) q away)
-      (get-past f rows g new numbered-after place n a.changes.others a.was same q away))
+      (get-past g f new rows a.numbered place n (λ p ne. sym (a.changes.others p ne)) (λ row e. a.is row (sym a.changes.changed ∙ e)) (λ p row ne e. sym (same p row ne (sym (a.changes.others p ne) ∙ e))) q away)
+      (get-past f g rows new numbered-after place n a.changes.others a.was same q away))
 
   pub map-after : {X : Type 0} (f : ℕ → Row R → Option X) → map_of f new ≡ altered (map_of f rows) n (option_and_then (f place) now)
   map-after f = map-anew f f (λ _ _ _ _. refl)
 
   pub map-same : {X : Type 0} (f : ℕ → Row R → Option X) → option_and_then (f place) (row_at rows place) ≡ option_and_then (f place) now → map_of f new ≡ map_of f rows
-  map-same f e = map-after f ∙ altered-same (map_of f rows) n (option_and_then (f place) now) (get-own f rows a.numbered place n (row_at rows place) refl a.was a.apart ∙ e)
-
-pub some_is : {X : Type 0} (o : Option X) → IsSome o → (x : X) × (o ≡ Some x)
-some_is None h = absurd (false≢true h)
-some_is (Some x) h = (x, refl)
+  map-same f e = map-after f ∙ altered-same (map_of f rows) n (option_and_then (f place) now) (get-own f rows a.numbered place n a.was a.apart ∙ e)

@@ -2,22 +2,20 @@
 use Rattle.std.proofs.Common.{◌≡◌, ◌≢◌, ℕ, zero, suc, ◌<◌, ◌≤◌, true, false, cond, List, [], ◌∷◌, Option, Some, None, IsSome, is_some, count_by, length, inl, inr, refl, sym, ap, subst, ◌∙◌, arith, ◌⊎◌}
 use Rattle.std.proofs.lemmas.Bool.{cases_eq, cases_Bool, eq-eqb, ne_eqb, eqb-true, cond-true, cond-false, false≢true}
 use Rattle.std.proofs.lemmas.List.{get_or-set_other}
-use Rattle.std.specs.Cmp.{nat_cmp_total}
-use Rattle.std.specs.FinMap.{FinMap, get, remove, len, entries, len-entries, get-entries, get-empty, empty, same_map, nat_cmp-IsAntisymmetric}
+use Rattle.std.specs.FinMap.{FinMap, get, remove, len, entries, len-entries, get-entries, get-empty, empty}
 use Rattle.std.specs.FinMap as finite
 use Rattle.std.specs.Option.{option_map, option_and_then}
 use Rattle.std.specs.Ordering.{nat_cmp}
-use Rattle.std.specs.Prelude.{IfSome, slice_index_or, slice_set}
+use Rattle.std.specs.Prelude.{IfSome, slice_set}
 use Rattle.moka_structures.proofs.Linked.{linked-same}
-use Rattle.moka_index.proofs.Maps.{option-cases, option-same}
-use Rattle.moka_store.proofs.TableMaps.{get-map, map-found, alters-set, map-anew}
-use Rattle.moka_store.specs.RecordTable.{Row}
-use Rattle.moka_store.specs.RecordTable.{row_at, number_at, membership_at, map_of, IsNumbered, ChangesAt}
+use Rattle.moka_index.proofs.Maps.{option-cases, same-map}
+use Rattle.moka_store.proofs.TableMaps.{read-of, made-of, get-map, map-found, alters-set, map-anew}
+use Rattle.moka_store.specs.RecordTable.{Row, row_at, number_at, membership_at, map_of, IsNumbered, ChangesAt}
 use Rattle.moka_wheel.specs.Wheel.{Timer}
 use Rattle.moka_parts.proofs.Maps.{itself_ordered}
 use Rattle.moka_store.proofs.Gets.{len-removed, after_remove}
 use Rattle.moka_store.proofs.Nodes.{count-cleared, LeadsTo}
-use Rattle.moka_store.proofs.Slots.{read-of, number-of}
+use Rattle.moka_store.proofs.Slots.{number-of}
 use Rattle.moka_store.specs.Store.{with_timer}
 use Rattle.moka_store.specs.StoreRows.{timer_at, moment_in, timers_of}
 use Rattle.moka_store.specs.StoreTies.{IsTimed}
@@ -25,11 +23,6 @@ use Rattle.moka_store.specs.Timing.{is_slot, timer_for, timer_after}
 use Rattle.moka_parts.specs.declared.records.Record.{Record}
 
 -- ---- timers in slots
-
--- a timer of a place is there
-pub timer-there : (o : Option Timer) (place : ℕ) → option_map (λ (t : Timer). t.number) o ≡ Some place → (t : Timer) × (o ≡ Some t)
-timer-there None place h = cc
-timer-there (Some t) place h = (t, refl)
 
 -- without timers there is nothing to change
 pub none-after : (before : Option ℕ) (place : ℕ) (at : Option ℕ) (other : ℕ) → get (empty {X = Timer} {R = nat_cmp}) other ≡ timer_after empty before None place at other
@@ -60,9 +53,9 @@ module _ {K V : Type 0} (rows new : List (Option (Row (Record K V)))) (timers : 
 
   -- and has its number
   pub timers-kept : IsNumbered (row_at rows) → IsNumbered (row_at new) → ((p : ℕ) → IsSome (timer_at rows p) → number_at new p ≡ number_at rows p) → timers_of timers new ≡ timers_of timers rows
-  timers-kept d e keeps = same_map nat_cmp_total nat_cmp-IsAntisymmetric (timers_of timers new) (timers_of timers rows) (λ n. option-same (get (timers_of timers new) n) (get (timers_of timers rows) n)
-      (moments-kept new rows timers d (λ p. sym (same p)) (λ p some. sym (keeps p (ap is_some (sym (same p)) ∙ some))) n)
-      (moments-kept rows new timers e same keeps n))
+  timers-kept d e keeps = same-map (timers_of timers new) (timers_of timers rows)
+      (moments-kept new rows timers d (λ p. sym (same p)) (λ p some. sym (keeps p (ap is_some (sym (same p)) ∙ some))))
+      (moments-kept rows new timers e same keeps)
 
 -- ---- there are fewer timers than rows, where one has none
 
@@ -83,11 +76,7 @@ len-timers f (suc n) m rows h leads =
     let rest : n ≤ count_by is_some (slice_set rows e.1.number None) = len-timers f n (remove m e.0) (slice_set rows e.1.number None) (omega arith) (λ slot t there.
     let a = after_remove m e.0 slot t there in
     let v = leads slot t a.1 in
-    let apart : t.number ≢ e.1.number = (λ s.
-    let both : Some v.0 ≡ Some w.0 = sym v.1 ∙ ap (λ p. slice_index_or rows p None) s ∙ w.1 in
-    let same : v.0 ≡ w.0 = cc in
-    let slots : Some slot ≡ Some e.0 = sym v.2 ∙ ap f same ∙ w.2 in
-    a.0 (cc)) in
+    let apart : t.number ≢ e.1.number = (λ s. a.0 (cc)) in
     (v.0, get_or-set_other rows e.1.number t.number None None apart ∙ v.1, v.2)) in
     omega (arith, c, rest)
 
@@ -97,11 +86,7 @@ module _ {K V : Type 0} (rows : List (Option (Row (Record K V)))) (timers : FinM
       let c = count-cleared rows place was at_is in
       let rest : len timers ≤ count_by is_some (slice_set rows place None) = len-timers (λ (row : Row (Record K V)). row.timer) (len timers) timers (slice_set rows place None) refl (λ slot x there.
       let v = read-of (λ (row : Row (Record K V)). row.timer) (row_at rows x.number) slot (t.linked.to_slot slot x.number (ap (option_map (λ (t : Timer). t.number)) there)) in
-      let apart : x.number ≢ place = (λ s.
-      let both : Some v.0 ≡ Some was = sym v.1 ∙ ap (row_at rows) s ∙ at_is in
-      let same : v.0 ≡ was = cc in
-      let bad : None ≡ Some slot = sym none ∙ ap (λ (row : Row (Record K V)). row.timer) (sym same) ∙ v.2 in
-      cc) in
+      let apart : x.number ≢ place = (λ s. cc) in
       (v.0, get_or-set_other rows place x.number None None apart ∙ v.1, v.2)) in
       omega (arith, c, rest)
 
@@ -123,9 +108,8 @@ module _ {K V : Type 0} (rows : List (Option (Row (Record K V)))) (timers : FinM
     | inl none ↦ none
     | inr s ↦
         let held = t.linked.to_place s.0 place (ap (option_and_then (λ (row : Row (Record K V)). row.timer)) at_is ∙ s.1) in
-        let there = timer-there (get timers s.0) place held in
-        let moment : moment_in timers was ≡ Some there.0.at = ap (option_and_then (λ slot. option_map (λ (t : Timer). t.at) (get timers slot))) s.1 ∙ ap (option_map (λ (t : Timer). t.at)) there.1 in
-        let bad : None ≡ Some there.0.at = sym free ∙ moment-row d ∙ moment in
+        let there = made-of (λ (t : Timer). t.number) (get timers s.0) place held in
+        let moment = moment-row d ∙ ap (option_and_then (λ slot. option_map (λ (t : Timer). t.at) (get timers slot))) s.1 ∙ ap (option_map (λ (t : Timer). t.at)) there.1 in
         cc
   ]
 
@@ -135,8 +119,8 @@ module _ {K V : Type 0} (rows : List (Option (Row (Record K V)))) (timers : FinM
     | inl none ↦ none
     | inr s ↦
         let some = t.members place (ap is_some (ap (option_and_then (λ (row : Row (Record K V)). row.timer)) at_is ∙ s.1)) in
-        let none : membership_at rows place ≡ None = ap (option_and_then (λ (row : Row (Record K V)). row.membership)) at_is ∙ alone in
-        absurd (false≢true (sym (ap is_some none) ∙ some))
+        let none = ap is_some (ap (option_and_then (λ (row : Row (Record K V)). row.membership)) at_is ∙ alone) in
+        cc
   ]
 
 -- ---- one row's timer changes
@@ -171,13 +155,12 @@ module _ {K V : Type 0} (rows new : List (Option (Row (Record K V)))) (timers af
   not-was p s ne there is =
       let one = t.linked.to_place s p there in
       let other = t.linked.to_place s place (timer-was ∙ is) in
-      let both : Some p ≡ Some place = sym one ∙ other in
       ne (cc)
 
   not-now : (p s : ℕ) → p ≢ place → timer_at rows p ≡ Some s → slot ≡ Some s → ⊥
   not-now p s ne there is = elim (subst (λ o. IfSome o (λ s. (was.timer ≡ Some s) ⊎ (get timers s ≡ None))) is fresh) [
     | inl own ↦ not-was p s ne there own
-    | inr free ↦ (let one = t.linked.to_place s p there in let none = ap (option_map (λ (t : Timer). t.number)) free in let bad : None ≡ Some p = sym none ∙ one in cc)
+    | inr free ↦ (let one = t.linked.to_place s p there in let none = ap (option_map (λ (t : Timer). t.number)) free in cc)
   ]
 
   -- other rows' timers stay
@@ -206,13 +189,10 @@ module _ {K V : Type 0} (rows new : List (Option (Row (Record K V)))) (timers af
     | inr n ↦
         let past = lookups s ∙ cond-false (is_slot slot s) (timer_for place at) (cond (is_slot was.timer s) None (get timers s)) n in
         elim (cases_Bool (is_slot was.timer s)) as (λ _. timer_at new p ≡ Some s) [
-          | inl y ↦ let bad : None ≡ Some p = sym (ap (option_map (λ (t : Timer). t.number)) (past ∙ cond-true (is_slot was.timer s) None (get timers s) y)) ∙ h in cc
+          | inl y ↦ (let none = ap (option_map (λ (t : Timer). t.number)) (past ∙ cond-true (is_slot was.timer s) None (get timers s) y) in cc)
           | inr k ↦
               let there = t.linked.to_slot s p (sym (ap (option_map (λ (t : Timer). t.number)) (past ∙ cond-false (is_slot was.timer s) None (get timers s) k)) ∙ h) in
-              let off : p ≢ place = (λ e.
-              let is : was.timer ≡ Some s = sym timer-was ∙ ap (timer_at rows) (sym e) ∙ there in
-              false≢true (sym k ∙ slot-here was.timer s is)) in
-              read-other p off ∙ there
+              read-other p (λ e. false≢true (sym k ∙ slot-here was.timer s (sym timer-was ∙ ap (timer_at rows) (sym e) ∙ there))) ∙ there
         ]
   ]
 
@@ -252,11 +232,8 @@ module _ {K V : Type 0} (rows new : List (Option (Row (Record K V)))) (timers af
   timers-set d =
       map-anew (alters-set d was (record was { timer = slot }) at_is refl c) (λ _ row. moment_in timers row) (λ _ row. moment_in after row)
       (λ p other ne there. elim (option-cases other.timer) as (λ _. moment_in after other ≡ moment_in timers other) [
-        | inl none ↦ ap (option_and_then (λ s. option_map (λ (t : Timer). t.at) (get after s))) none ∙ sym (ap (option_and_then (λ s. option_map (λ (t : Timer). t.at) (get timers s))) none)
-        | inr s ↦
-            ap (option_and_then (λ s. option_map (λ (t : Timer). t.at) (get after s))) s.1
-            ∙ ap (option_map (λ (t : Timer). t.at)) (other-timer p s.0 ne (ap (option_and_then (λ (row : Row (Record K V)). row.timer)) there ∙ s.1))
-            ∙ sym (ap (option_and_then (λ s. option_map (λ (t : Timer). t.at) (get timers s))) s.1)
+        | inl none ↦ rw none refl
+        | inr s ↦ rw s.1 (ap (option_map (λ (t : Timer). t.at)) (other-timer p s.0 ne (ap (option_and_then (λ (row : Row (Record K V)). row.timer)) there ∙ s.1)))
       ])
       ∙ ap (with_timer (map_of (λ _ row. moment_in timers row) rows) was.number) (moment-now slot refl)
 
@@ -291,9 +268,5 @@ module _ {K V : Type 0} (rows : List (Option (Row (Record K V)))) (timers : FinM
   all-ahead now ahead n at h =
       let w = map-found (λ _ row. moment_in timers row) rows n at h in
       let slot = read-of (λ slot. option_map (λ (t : Timer). t.at) (get timers slot)) w.row.timer at w.value_is in
-      let timer = at-moment (get timers slot.0) at slot.2 in
+      let timer = made-of (λ (t : Timer). t.at) (get timers slot.0) at slot.2 in
       subst (λ x. now < x) timer.2 (ahead slot.0 timer.0 timer.1)
-    where
-      at-moment : (o : Option Timer) (at : ℕ) → option_map (λ (t : Timer). t.at) o ≡ Some at → (t : Timer) × (o ≡ Some t) × (t.at ≡ at)
-      at-moment None at h = cc
-      at-moment (Some t) at h = (t, refl, cc)

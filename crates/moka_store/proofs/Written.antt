@@ -1,14 +1,13 @@
 -- The order of writing, and the cursor in it, after each change.
 use Rattle.std.proofs.Common.{◌≡◌, ℕ, Bool, true, false, cond, ◌==◌, List, [], ◌∷◌, ◌++◌, map, Option, Some, None, IsSome, is_some, inl, inr, refl, sym, ap, ◌∙◌, nat_eq, Contains}
-use Rattle.std.proofs.lemmas.Bool.{cases_Bool, cond-true, cond-false, false≢true}
+use Rattle.std.proofs.lemmas.Bool.{cond-true, cond-false, false≢true}
 use Rattle.std.proofs.lemmas.List.{map-append}
 use Rattle.std.specs.Map.{lookup, remove_entry}
 use Rattle.std.specs.Option.{option_map, option_and_then}
 use Rattle.std.specs.Prelude.{IfSome, IfNone, slice_get}
 use Rattle.moka_index.proofs.Maps.{option-cases}
-use Rattle.moka_store.specs.RecordTable.{Row}
+use Rattle.moka_store.specs.RecordTable.{Row, row_at, number_at, IsNumbered}
 use Rattle.moka_structures.specs.Order.{next_after}
-use Rattle.moka_store.specs.RecordTable.{row_at, number_at, IsNumbered}
 use Rattle.moka_store.proofs.Nodes.{in-nodes, node-in, map-agree, any-none, any-found, behind-none, rest-none, rest-found, behind-found, get-map}
 use Rattle.moka_store.proofs.Slots.{number-of, node-of, no-node, one-node}
 use Rattle.moka_store.specs.Listing.{IsCursor, node_past}
@@ -90,19 +89,12 @@ module _ {K V : Type 0} (rows : List (Option (Row (Record K V)))) (nodes : List 
     unfolding written_of cursor_of
     cursor-past None None is at = refl
     cursor-past (Some slot) None is at = refl
-    cursor-past None (Some m) is at =
-        sym (cond-false (number_at rows m.1 == row.number) (number_after row.number numbers) (Some (number_at rows m.1)) (in-no-node is m (node-in nodes m.0 m.1 (at m refl))))
+    cursor-past None (Some m) is at = rw (in-no-node is m (node-in nodes m.0 m.1 (at m refl))) refl
     cursor-past (Some slot) (Some m) is at =
-        let here : (number_at rows m.1 == row.number) ≡ nat_eq slot m.0 = at-slot slot is m (node-in nodes m.0 m.1 (at m refl)) in
-        elim (cases_Bool (nat_eq slot m.0)) as (λ _. option_map (λ (node : ℕ × ℕ). number_at rows node.1) (cond (nat_eq slot m.0) (next_after slot nodes) (Some m)) ≡ cond (number_at rows m.1 == row.number) (number_after row.number numbers) (Some (number_at rows m.1))) [
-          | inl t ↦
-              ap (option_map (λ (node : ℕ × ℕ). number_at rows node.1)) (cond-true (nat_eq slot m.0) (next_after slot nodes) (Some m) t)
-              ∙ sym (behind-found (λ m. number_at rows m.1) (λ m. m == row.number) slot nodes (at-slot slot is))
-              ∙ sym (cond-true (number_at rows m.1 == row.number) (number_after row.number numbers) (Some (number_at rows m.1)) (here ∙ t))
-          | inr f ↦
-              ap (option_map (λ (node : ℕ × ℕ). number_at rows node.1)) (cond-false (nat_eq slot m.0) (next_after slot nodes) (Some m) f)
-              ∙ sym (cond-false (number_at rows m.1 == row.number) (number_after row.number numbers) (Some (number_at rows m.1)) (here ∙ f))
-        ]
+        rw (at-slot slot is m (node-in nodes m.0 m.1 (at m refl))) (elim (nat_eq slot m.0) as (λ b. option_map (λ (node : ℕ × ℕ). number_at rows node.1) (cond b (next_after slot nodes) (Some m)) ≡ cond b (number_after row.number numbers) (Some (number_at rows m.1))) [
+          | true ↦ sym (behind-found (λ m. number_at rows m.1) (λ m. m == row.number) slot nodes (at-slot slot is))
+          | false ↦ refl
+        ])
 
     -- the number behind
     pub number-behind : (slot : Option ℕ) → written_in row ≡ slot → number_after row.number (written_of rows nodes) ≡ option_and_then (λ slot. option_map (λ m. number_at rows m.1) (next_after slot nodes)) slot

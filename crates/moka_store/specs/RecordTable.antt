@@ -1,9 +1,10 @@
 -- What a contract sees of a `RecordTable`: its rows by place, and the finite maps by number that they make.
-use Rattle.std.specs.Prelude.{◌≡◌, ◌≢◌, ℕ, zero, suc, Option, Some, None, List, length, slice_index_or, slice_set, cond, ◌==◌, refl}
+use Rattle.std.specs.Prelude.{◌≡◌, ◌≢◌, ℕ, Option, Some, None, List, length, slice_index_or, slice_set, cond, ◌==◌, refl}
 use Rattle.std.specs.Coded.{Coded, code_by, coded×, coded_ℕ, coded_list, coded_option}
-use Rattle.std.specs.FinMap.{FinMap, empty, insert, remove}
+use Rattle.std.specs.FinMap.{FinMap, insert, remove}
 use Rattle.std.specs.Option.{option_map, option_map_or, option_and_then}
 use Rattle.std.specs.Ordering.{nat_cmp}
+use Rattle.moka_index.specs.EntryMap.{upto}
 use Rattle.moka_store.specs.declared.table.membership.Membership.{Membership}
 
 -- what stands under a number: what is stored, until it leaves the map; its membership, while it is a member; its slot
@@ -110,25 +111,14 @@ abbrev pub altered : {X : Type 0} → FinMap nat_cmp X → ℕ → Option X → 
 altered m number None = remove m number
 altered m number (Some x) = insert m number x
 
--- the map with this value under the number, if there is one
-abbrev pub put_some : {X : Type 0} → ℕ → Option X → FinMap nat_cmp X → FinMap nat_cmp X
-put_some number None m = m
-put_some number (Some x) m = insert m number x
-
 module _ {R X : Type 0} (f : ℕ → Row R → Option X) where
-  -- what f answers at a place and its row goes under the row's number
-  abbrev pub put_row : ℕ → Option (Row R) → FinMap nat_cmp X → FinMap nat_cmp X
-  put_row place None m = m
-  put_row place (Some row) m = put_some row.number (f place row) m
+  -- what f answers at a place and its row, with the row's number
+  abbrev pub answer_at : List (Option (Row R)) → ℕ → Option (ℕ × X)
+  answer_at rows place = option_and_then (λ row. option_map (λ x. (row.number, x)) (f place row)) (row_at rows place)
 
-  -- the map that the rows of the first places make
-  abbrev pub upto : (ℕ → Option (Row R)) → ℕ → FinMap nat_cmp X
-  upto at zero = empty
-  upto at (suc k) = put_row k (at k) (upto at k)
-
-  -- the map that all rows make
+  -- the map by number that the answers of all rows make
   abbrev pub map_of : List (Option (Row R)) → FinMap nat_cmp X
-  map_of rows = upto (row_at rows) (length rows)
+  map_of rows = upto (answer_at rows) (length rows)
 
 -- the counted weight of a row that is a member
 abbrev pub counted_in : {R : Type 0} → Row R → Option ℕ

@@ -5,10 +5,9 @@ use Rattle.std.specs.List.{IsDistinct}
 use Rattle.std.specs.Map.{lookup, keys_of}
 use Rattle.std.specs.Option.{option_map, option_and_then}
 use Rattle.std.specs.Ordering.{nat_cmp}
-use Rattle.moka_store.specs.RecordTable.{Row}
+use Rattle.moka_store.specs.RecordTable.{Row, row_at, membership_at, IsNumbered, records_of, places_of}
 use Rattle.moka_structures.specs.Linked.{IsLinked}
 use Rattle.moka_structures.specs.Order.{Order}
-use Rattle.moka_store.specs.RecordTable.{row_at, membership_at, IsNumbered, records_of, places_of}
 use Rattle.moka_wheel.specs.Wheel.{Timer}
 use Rattle.moka_store.specs.Listing.{Listing, IsCursor}
 use Rattle.moka_store.specs.Timing.{Timing}

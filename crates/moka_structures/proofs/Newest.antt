@@ -1,56 +1,74 @@
 -- An `Outstanding`'s newest item beside the older ones.
-use Rattle.std.proofs.Common.{◌≡◌, ◌≢◌, ℕ, ◌+◌, ◌-◌, ◌<◌, ◌≤◌, cond, Option, Some, None, IsSome, is_some, nat_eq, inl, inr, refl, sym, ap, subst, ◌∙◌, arith}
-use Rattle.std.proofs.lemmas.Bool.{cases_eq, eq-eqb, ne_eqb, cond-true, cond-false, false≢true}
+use Rattle.std.proofs.Common.{◌≡◌, ◌≢◌, ℕ, ◌+◌, ◌-◌, ◌<◌, ◌≤◌, cond, Option, Some, None, IsSome, is_some, nat_eq, refl, sym, ap, subst, ◌∙◌, arith}
+use Rattle.std.proofs.lemmas.Bool.{cond-false}
 use Rattle.std.specs.Bool.{⊤}
 use Rattle.std.specs.Cmp.{nat_cmp_total}
-use Rattle.std.specs.FinMap.{FinMap, empty, insert, remove, len, get-empty, get-insert, get-remove, len-remove, same_map, nat_cmp-IsAntisymmetric}
+use Rattle.std.specs.FinMap.{FinMap, empty, insert, remove, len, get-empty, len-remove, same_map, nat_cmp-IsAntisymmetric}
 use Rattle.std.specs.FinMap as map
-use Rattle.std.specs.Ordering.{nat_cmp, eq_by_cmp}
-use Rattle.moka_links.proofs.FinMaps.{get-inserted, get-past_insert, get-removed, get-past_remove, len-inserted, len-removed, len-some}
+use Rattle.std.specs.Ordering.{nat_cmp}
+use Rattle.std.proofs.lemmas.Bool.Decides.{nat_tests}
+use Rattle.moka_links.proofs.FinMaps.{get-put, get-taken, get-inserted, get-past_insert, len-inserted, len-removed, len-some}
 use Rattle.moka_structures.specs.Newest.{with_newest, AreOlder}
 use Rattle.moka_structures.specs.declared.outstanding.Newest.{Newest}
-use Rattle.moka_structures.proofs.Tickets.{eq-tests, not-some}
+use Rattle.moka_structures.proofs.Tickets.{IsLowest, newest-fresh}
 
 module _ {X : Type 0} (m : FinMap nat_cmp X) (k : ℕ) where
-  -- every look-up after one more
-  pub get-put : (x : X) (q : ℕ) → map.get (insert m k x) q ≡ cond (nat_eq k q) (Some x) (map.get m q)
-  get-put x q = get-insert nat_cmp_total m k x q ∙ ap (λ b. cond b (Some x) (map.get m q)) (eq-tests q k)
-
-  -- every look-up after one less
-  pub get-taken : (q : ℕ) → map.get (remove m k) q ≡ cond (nat_eq k q) None (map.get m q)
-  get-taken q = get-remove nat_cmp_total m k q ∙ ap (λ b. cond b None (map.get m q)) (eq-tests q k)
-
   -- nothing else changed
   pub get-put_other : (x : X) (q : ℕ) → k ≢ q → map.get (insert m k x) q ≡ map.get m q
   get-put_other x q ne = get-past_insert m k x q (λ e. ne (sym e))
 
+-- two changes of a map
+module _ {X : Type 0} (m : FinMap nat_cmp X) (k : ℕ) where
   -- what was put is taken again
   pub taken-put : (x : X) → map.get m k ≡ None → remove (insert m k x) k ≡ m
   taken-put x none = same_map nat_cmp_total nat_cmp-IsAntisymmetric (remove (insert m k x) k) m (λ q.
-      elim (cases_eq q k) as (λ _. map.get (remove (insert m k x) k) q ≡ map.get m q) [
-        | inl e ↦ ap (map.get (remove (insert m k x) k)) e ∙ get-removed (insert m k x) k ∙ sym none ∙ ap (map.get m) (sym e)
-        | inr ne ↦ get-past_remove (insert m k x) k q ne ∙ get-past_insert m k x q ne
-      ])
+      grind (arith, nat_tests, get-taken (insert m k x) k q, get-put m k x q))
 
   -- another is taken from under it
   pub taken-under : (x : X) (j : ℕ) → k ≢ j → insert (remove m j) k x ≡ remove (insert m k x) j
   taken-under x j ne = same_map nat_cmp_total nat_cmp-IsAntisymmetric (insert (remove m j) k x) (remove (insert m k x) j) (λ q.
-      elim (cases_eq q k) as (λ _. map.get (insert (remove m j) k x) q ≡ map.get (remove (insert m k x) j) q) [
-        | inl e ↦ ap (map.get (insert (remove m j) k x)) e ∙ get-inserted (remove m j) k x
-            ∙ sym (ap (map.get (remove (insert m k x) j)) e ∙ get-past_remove (insert m k x) j k ne ∙ get-inserted m k x)
-        | inr other ↦ get-past_insert (remove m j) k x q other ∙ get-remove nat_cmp_total m j q
-            ∙ sym (get-remove nat_cmp_total (insert m k x) j q ∙ ap (cond (eq_by_cmp nat_cmp q j) None) (get-past_insert m k x q other))
-      ])
+      grind (arith, nat_tests, get-put (remove m j) k x q, get-taken m j q, get-taken (insert m k x) j q, get-put m k x q))
 
-  -- as many as before, or one less where something was there
-  pub len-without : (o : Option X) → o ≡ map.get m k → len (remove m k) + cond (is_some o) 1 0 ≡ len m
-  len-without None e =
-      let same : len (remove m k) ≡ len m = len-remove nat_cmp_total m k ∙ cond-false (map.contains_key m k) (len m - 1) (len m) (ap is_some (sym e)) in
-      let sum : len (remove m k) + 0 ≡ len m = omega arith in
-      sum
-  len-without (Some x) e =
-      let sum : len (remove m k) + 1 ≡ len m = omega (arith, len-removed m k x (sym e), len-some m k x (sym e)) in
-      sum
+  -- two items are put in either order
+  pub swapped : (y : X) (t : ℕ) (x : X) → k ≢ t → insert (insert m t x) k y ≡ insert (insert m k y) t x
+  swapped y t x ne = same_map nat_cmp_total nat_cmp-IsAntisymmetric (insert (insert m t x) k y) (insert (insert m k y) t x) (λ q.
+      grind (arith, nat_tests, get-put (insert m t x) k y q, get-put m t x q, get-put (insert m k y) t x q, get-put m k y q))
+
+  -- what is not there is not taken
+  pub taken-none : map.get m k ≡ None → remove m k ≡ m
+  taken-none none = same_map nat_cmp_total nat_cmp-IsAntisymmetric (remove m k) m (λ q. grind (arith, nat_tests, get-taken m k q))
+
+-- an item alone has the lowest ticket
+pub lowest-alone : {X : Type 0} (t : ℕ) (x : X) → IsLowest t (insert (empty {X = X} {R = nat_cmp}) t x)
+lowest-alone {X} t x =
+    let none : FinMap nat_cmp X = empty in
+    (grind (arith, nat_tests, get-put none t x t), λ q some. grind (arith, nat_tests, get-put none t x q, get-empty {X = X} nat_cmp q))
+
+-- what follows of the items, where one more was handed out under a ticket above all others
+module _ {X : Type 0} (old new : FinMap nat_cmp X) (t : ℕ) (x : X) (put : new ≡ insert old t x) where
+  pub gets-put : (q : ℕ) → map.get new q ≡ cond (nat_eq t q) (Some x) (map.get old q)
+  gets-put q = rw put (grind (arith, nat_tests, get-put old t x q))
+
+  module _ (newest : (q : ℕ) → IsSome (map.get old q) → q < t) where
+    pub newest-put : (q : ℕ) → IsSome (map.get new q) → q ≤ t
+    newest-put q h = grind (arith, nat_tests, newest q, gets-put q)
+
+    pub len-put : len new ≡ len old + 1
+    len-put = ap len put ∙ len-inserted old t x (newest-fresh old t newest)
+
+-- what follows of the items, where the one under a ticket was taken, if it was there
+module _ {X : Type 0} (old new : FinMap nat_cmp X) (t : ℕ) (taken : new ≡ remove old t) where
+  pub gets-taken : (q : ℕ) → map.get new q ≡ cond (nat_eq t q) None (map.get old q)
+  gets-taken q = rw taken (grind (arith, nat_tests, get-taken old t q))
+
+  pub left-taken : (q : ℕ) → IsSome (map.get new q) → IsSome (map.get old q)
+  left-taken q h = grind (arith, nat_tests, gets-taken q)
+
+  pub len-taken : (o : Option X) → o ≡ map.get old t → len new + cond (is_some o) 1 0 ≡ len old
+  len-taken None e =
+      let same : len (remove old t) ≡ len old = len-remove nat_cmp_total old t ∙ cond-false (map.contains_key old t) (len old - 1) (len old) (ap is_some (sym e)) in
+      omega (arith, ap len taken)
+  len-taken (Some x) e = omega (arith, ap len taken, len-removed old t x (sym e), len-some old t x (sym e))
 
 module _ {T : Type 0} where
   -- the newest has another ticket, or there is none
@@ -79,10 +97,7 @@ module _ {T : Type 0} where
   -- what is left is older still
   pub older-without : (o : Option (Newest T)) (m n : FinMap nat_cmp T) (t : ℕ) → n ≡ remove m t → AreOlder o m → AreOlder o n
   older-without None m n t e h = tt
-  older-without (Some x) m n t e h = λ q some. h q (elim (cases_eq t q) as (λ _. IsSome (map.get m q)) [
-    | inl same ↦ absurd (false≢true (subst (λ o. IsSome o) (ap (λ i. map.get i q) e ∙ get-taken m t q ∙ cond-true (nat_eq t q) None (map.get m q) (eq-eqb t q same)) some))
-    | inr ne ↦ subst (λ o. IsSome o) (ap (λ i. map.get i q) e ∙ get-taken m t q ∙ cond-false (nat_eq t q) None (map.get m q) (ne_eqb t q ne)) some
-  ])
+  older-without (Some x) m n t e h = λ q some. h q (left-taken m n t e q some)
 
   -- ---- the newest
 
@@ -101,7 +116,7 @@ module _ {T : Type 0} where
     module _ (older : AreOlder o m) where
       -- no older one has its ticket
       not-older : map.get m x.ticket ≡ None
-      not-older = not-some (map.get m x.ticket) (λ some. let l = subst (λ o. AreOlder o m) is older in let less = l x.ticket some in omega arith)
+      not-older = newest-fresh m x.ticket (subst (λ o. AreOlder o m) is older)
 
       -- without it the older ones are left
       pub remove-newest : (t : ℕ) → x.ticket ≡ t → m ≡ remove (with_newest o m) t
@@ -125,28 +140,12 @@ module _ {T : Type 0} where
   -- ---- the least ticket
 
   -- the least of the older ones is the least of all
-  pub least-older : (o : Option (Newest T)) (m : FinMap nat_cmp T) (t : ℕ) → AreOlder o m
-      → IsSome (map.get m t) × ((q : ℕ) → IsSome (map.get m q) → t ≤ q)
-      → IsSome (map.get (with_newest o m) t) × ((q : ℕ) → IsSome (map.get (with_newest o m) q) → t ≤ q)
+  pub least-older : (o : Option (Newest T)) (m : FinMap nat_cmp T) (t : ℕ) → AreOlder o m → IsLowest t m → IsLowest t (with_newest o m)
   least-older None m t older h = h
   least-older (Some x) m t older h =
-      let l : t < x.ticket = older t h.0 in (
-        subst (λ o. IsSome o) (sym (get-put_other m x.ticket x.item t (λ e. omega arith))) h.0,
-        λ q some. elim (cases_eq x.ticket q) as (λ _. t ≤ q) [
-          | inl e ↦ omega arith
-          | inr ne ↦ h.1 q (subst (λ o. IsSome o) (get-put_other m x.ticket x.item q ne) some)
-        ],
-      )
+      let l : t < x.ticket = older t h.0 in
+      (grind (arith, nat_tests, h.0, get-put m x.ticket x.item t), λ q some. grind (arith, nat_tests, h.1 q, get-put m x.ticket x.item q))
 
   -- where nothing is older, the newest is the least
-  pub least-newest : (o : Option (Newest T)) (m : FinMap nat_cmp T) (x : Newest T) → o ≡ Some x → m ≡ empty
-      → IsSome (map.get (with_newest o m) x.ticket) × ((q : ℕ) → IsSome (map.get (with_newest o m) q) → x.ticket ≤ q)
-  least-newest o m x is none = (
-    subst (λ o. IsSome o) (sym (get-newest o m x is x.ticket refl)) refl,
-    λ q some. elim (cases_eq x.ticket q) as (λ _. x.ticket ≤ q) [
-      | inl e ↦ omega arith
-      | inr ne ↦
-          let gone = get-other o m q (other-some o x q is ne) ∙ ap (λ i. map.get i q) none ∙ get-empty nat_cmp q in
-          absurd (false≢true (subst (λ o. IsSome o) gone some))
-    ],
-  )
+  pub least-newest : (o : Option (Newest T)) (m : FinMap nat_cmp T) (x : Newest T) → o ≡ Some x → m ≡ empty → IsLowest x.ticket (with_newest o m)
+  least-newest o m x is none = rw (with-some o m x is, none) (lowest-alone x.ticket x.item)

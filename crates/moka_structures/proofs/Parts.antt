@@ -1,55 +1,51 @@
 -- The slots of the ring and the free ones, after each write.
-use Rattle.std.proofs.Common.{◌≡◌, ◌≢◌, ℕ, ◌+◌, ◌-◌, ◌<◌, ◌≤◌, ◌^◌, List, [], ◌∷◌, ◌++◌, inl, inr, refl, sym, ap, ◌∙◌, arith, add-one, length, set, get_or, drop, length-set}
-use Rattle.std.proofs.lemmas.Bool.{cases_lt, cases_order}
+use Rattle.std.proofs.Common.{◌≡◌, ◌≢◌, ℕ, zero, suc, ◌+◌, ◌<◌, ◌≤◌, ◌^◌, List, [], ◌∷◌, ◌++◌, inl, inr, refl, sym, ap, ◌∙◌, arith, add-one, length, set, get_or, drop, length-set}
+use Rattle.std.proofs.lemmas.Bool.{cases_lt}
 use Rattle.std.proofs.lemmas.List.{length_push, get_or_append_left, get_or_push, get_or_past}
 use Rattle.std.proofs.lemmas.List.Edits.{length-remove, get_or-remove_below, get_or-remove_above}
 use Rattle.std.specs.List.{remove}
 use Rattle.moka_links.specs.Chains.{Frees, free_of}
 use Rattle.moka_links.proofs.Chains.{Frees-same, more-frees, fewer-frees, free_of-rest, length-rest}
-use Rattle.moka_links.proofs.Nodes.{set-keeps, set-other, set-same, Detached-detached, Attached-attached}
+use Rattle.moka_links.proofs.Nodes.{set-keeps, set-other, set-same, Detached, Detached-detached, Attached-attached}
 use Rattle.moka_structures.specs.Rings.{Ring}
 use Rattle.moka_links.specs.declared.Node.{Node}
-use Rattle.moka_structures.specs.Links.{IsOrder, blank, at, with_behind, with_value, detached, attached, behinds, befores, ring_of}
+use Rattle.moka_structures.specs.Links.{IsOrder, blank, at, with_behind, with_value, detached, attached, behinds, befores, values, ring_of}
 use Rattle.moka_structures.proofs.Rings.{Ring-detach, Ring-attach, Ring-same, Ring-within}
 
 -- the ring past the sentinel is the list of slots
 pub ring-next : (xs : List ℕ) (i : ℕ) → ring_of xs (i + 1) ≡ get_or xs i 0
 ring-next xs i = rw add-one refl
 
+-- the places below the one that is taken out, and those above it
+ring-below : (xs : List ℕ) (h i : ℕ) → h < length xs → i ≤ h → ring_of (remove xs h) i ≡ ring_of xs i
+ring-below xs h zero l q = refl
+ring-below xs h (suc i) l q = get_or-remove_below xs h 0 i (omega arith) l
+
+ring-above : (xs : List ℕ) (h i : ℕ) → h < length xs → h < i → ring_of (remove xs h) i ≡ ring_of xs (i + 1)
+ring-above xs h zero l q = absurd (omega arith)
+ring-above xs h (suc i) l q = get_or-remove_above xs h 0 i (omega arith) l ∙ sym (ring-next xs (i + 1)) ∙ ap (ring_of xs) (omega arith)
+
 -- the ring without the slot at a place
-pub ring-remove : (f g f' g' : ℕ → ℕ) (xs : List ℕ) (size h : ℕ) → h < length xs → Ring f g (ring_of xs) (length xs) size
+ring-remove : (f g f' g' : ℕ → ℕ) (xs : List ℕ) (size h : ℕ) → h < length xs → Ring f g (ring_of xs) (length xs) size
     → ((i : ℕ) → i ≢ ring_of xs h → i ≢ ring_of xs (h + 1) → f' i ≡ f i) → f' (ring_of xs h) ≡ ring_of xs (h + 2)
     → ((i : ℕ) → i ≢ ring_of xs (h + 2) → g' i ≡ g i) → g' (ring_of xs (h + 2)) ≡ ring_of xs h
     → Ring f' g' (ring_of (remove xs h)) (length (remove xs h)) size
 ring-remove f g f' g' xs size h l ring fo fs go gs =
     let e : length (remove xs h) + 1 ≡ length xs = length-remove xs h l in
-    let low : (i : ℕ) → i ≤ h → ring_of (remove xs h) i ≡ ring_of xs i = λ i q. elim (cases_order i 0) as (λ _. ring_of (remove xs h) i ≡ ring_of xs i) [
-      | inl z ↦ rw z refl
-      | inr (inl k) ↦ absurd (omega arith)
-      | inr (inr k) ↦ ap (ring_of (remove xs h)) (omega arith) ∙ ring-next (remove xs h) (i - 1) ∙ get_or-remove_below xs h 0 (i - 1) (omega arith) l ∙ sym (ring-next xs (i - 1)) ∙ ap (ring_of xs) (omega arith)
-    ] in
-    let high : (i : ℕ) → h < i → ring_of (remove xs h) i ≡ ring_of xs (i + 1) = λ i q.
-    ap (ring_of (remove xs h)) (omega arith) ∙ ring-next (remove xs h) (i - 1) ∙ get_or-remove_above xs h 0 (i - 1) (omega arith) l ∙ sym (ring-next xs (i - 1 + 1)) ∙ ap (ring_of xs) (omega arith) in
-    Ring-detach f g f' g' (ring_of xs) (ring_of (remove xs h)) (length (remove xs h)) size h (rw e ring) (omega arith) fo fs go gs low high
-
--- a chain with one more slot before it
-pub ring-next-free : (s : ℕ) (fs : List ℕ) (i : ℕ) → free_of (s ∷ fs) (i + 1) ≡ free_of fs i
-ring-next-free s fs i = rw add-one refl
+    Ring-detach f g f' g' (ring_of xs) (ring_of (remove xs h)) (length (remove xs h)) size h (rw e ring) (omega arith) fo fs go gs
+    (λ i q. ring-below xs h i l q) (λ i q. ring-above xs h i l q)
 
 -- the old places after a push
-pub push-low : (xs : List ℕ) (s i : ℕ) → i ≤ length xs → ring_of (xs ++ s ∷ []) i ≡ ring_of xs i
-push-low xs s i q = elim (cases_order i 0) as (λ _. ring_of (xs ++ s ∷ []) i ≡ ring_of xs i) [
-  | inl z ↦ rw z refl
-  | inr (inl k) ↦ absurd (omega arith)
-  | inr (inr k) ↦ ap (ring_of (xs ++ s ∷ [])) (omega arith) ∙ ring-next (xs ++ s ∷ []) (i - 1) ∙ get_or_append_left xs (s ∷ []) 0 (i - 1) (omega arith) ∙ sym (ring-next xs (i - 1)) ∙ ap (ring_of xs) (omega arith)
-]
+push-low : (xs : List ℕ) (s i : ℕ) → i ≤ length xs → ring_of (xs ++ s ∷ []) i ≡ ring_of xs i
+push-low xs s zero q = refl
+push-low xs s (suc i) q = get_or_append_left xs (s ∷ []) 0 i (omega arith)
 
 -- the new place after a push
-pub push-last : (xs : List ℕ) (s i : ℕ) → i ≡ length xs + 1 → ring_of (xs ++ s ∷ []) i ≡ s
+push-last : (xs : List ℕ) (s i : ℕ) → i ≡ length xs + 1 → ring_of (xs ++ s ∷ []) i ≡ s
 push-last xs s i e = ap (ring_of (xs ++ s ∷ [])) e ∙ ring-next (xs ++ s ∷ []) (length xs) ∙ get_or_push xs s 0 (length xs) refl
 
 -- the ring with one more slot at the back
-pub ring-push : (f g f' g' : ℕ → ℕ) (xs : List ℕ) (size s : ℕ) → Ring f g (ring_of xs) (length xs) size → s < size
+ring-push : (f g f' g' : ℕ → ℕ) (xs : List ℕ) (size s : ℕ) → Ring f g (ring_of xs) (length xs) size → s < size
     → ((i : ℕ) → i ≤ length xs → ring_of xs i ≢ s)
     → ((i : ℕ) → i ≢ ring_of xs (length xs) → i ≢ s → f' i ≡ f i) → f' (ring_of xs (length xs)) ≡ s → f' s ≡ 0
     → ((i : ℕ) → i ≢ 0 → i ≢ s → g' i ≡ g i) → g' 0 ≡ s → g' s ≡ ring_of xs (length xs)
@@ -64,7 +60,6 @@ module _ {T : Type 0} (past : T) where
   -- where a linked slot's neighbours are
   pub record Neighbours (ns : List (Node T)) (xs : List ℕ) (s h : ℕ) : Type 0 where
     pub within : s < length ns
-    pub positive : 0 < s
     pub at_place : ring_of xs (h + 1) ≡ s
     pub before : befores past ns s ≡ ring_of xs h
     pub behind : behinds past ns s ≡ ring_of xs (h + 2)
@@ -77,65 +72,34 @@ module _ {T : Type 0} (past : T) where
       let at_place : ring_of xs (h + 1) ≡ s = ring-next xs h ∙ e in
       let before : befores past ns s ≡ ring_of xs h = ap (befores past ns) (sym at_place) ∙ ring.before h (omega arith) in
       let behind : behinds past ns s ≡ ring_of xs (h + 2) = ap (behinds past ns) (sym at_place) ∙ ring.behind (h + 1) (omega arith) ∙ ap (ring_of xs) (omega arith) in
-      let ne : 0 ≢ s = λ z. ring.apart 0 (h + 1) (omega arith) (omega arith) (ring.start ∙ z ∙ sym at_place) in
-      let wraps : ring_of xs (h + 2) < length ns = elim (cases_order (h + 2) (length xs + 1)) as (λ _. ring_of xs (h + 2) < length ns) [
-        | inl last ↦ rw (last, ring.close) (omega (arith, ring.within 0 (omega arith)))
-        | inr (inl k) ↦ ring.within (h + 2) (omega arith)
-        | inr (inr k) ↦ absurd (omega arith)
-      ] in
       record {
         within = rw (← at_place) (ring.within (h + 1) (omega arith));
-        positive = omega arith;
         at_place = at_place;
         before = before;
         behind = behind;
         before_within = rw before (ring.within h (omega arith));
-        behind_within = rw behind wraps;
+        behind_within = rw behind (Ring-within (behinds past ns) (befores past ns) (ring_of xs) (length xs) (length ns) ring (h + 2) (omega arith));
       }
 
   -- two places have two slots
-  pub ring-distinct : (f g r : ℕ → ℕ) (n size i j : ℕ) → Ring f g r n size → i ≤ n → j ≤ n → i ≢ j → r i ≢ r j
-  ring-distinct f g r n size i j ring p q ne z = elim (cases_order i j) as (λ _. ⊥) [
-    | inl e ↦ ne e
-    | inr (inl k) ↦ ring.apart i j k q z
-    | inr (inr k) ↦ ring.apart j i k p (sym z)
-  ]
+  ring-distinct : (f g r : ℕ → ℕ) (n size i j : ℕ) → Ring f g r n size → i ≤ n → j ≤ n → i ≢ j → r i ≢ r j
+  ring-distinct f g r n size i j ring p q ne z = grind (arith, ring.apart i j, ring.apart j i)
 
   -- a place of what is left is another place of what there was
-  pub record From (xs : List ℕ) (h i : ℕ) : Type 0 where
+  record From (xs : List ℕ) (h i : ℕ) : Type 0 where
     pub place : ℕ
     pub within : place ≤ length xs
     pub other : place ≢ h + 1
     pub same : ring_of (remove xs h) i ≡ ring_of xs place
 
   -- each place left is such a place
-  pub from-of : (xs : List ℕ) (h i : ℕ) → h < length xs → i ≤ length (remove xs h) → From xs h i
+  from-of : (xs : List ℕ) (h i : ℕ) → h < length xs → i ≤ length (remove xs h) → From xs h i
   from-of xs h i l q =
       let e : length (remove xs h) + 1 ≡ length xs = length-remove xs h l in
-      elim (cases_order i 0) as (λ _. From xs h i) [
-        | inl z ↦ record { place = 0; within = omega arith; other = λ y. omega arith; same = rw z refl }
-        | inr (inl k) ↦ absurd (omega arith)
-        | inr (inr k) ↦ elim (cases_lt h i) as (λ _. From xs h i) [
-          | inl past ↦ record {
-            place = i + 1;
-            within = omega arith;
-            other = λ y. omega arith;
-            same = ap (ring_of (remove xs h)) (omega arith) ∙ ring-next (remove xs h) (i - 1) ∙ get_or-remove_above xs h 0 (i - 1) (omega arith) l ∙ sym (ring-next xs (i - 1 + 1)) ∙ ap (ring_of xs) (omega arith);
-          }
-          | inr below ↦ record {
-            place = i;
-            within = omega arith;
-            other = λ y. omega arith;
-            same = ap (ring_of (remove xs h)) (omega arith) ∙ ring-next (remove xs h) (i - 1) ∙ get_or-remove_below xs h 0 (i - 1) (omega arith) l ∙ sym (ring-next xs (i - 1)) ∙ ap (ring_of xs) (omega arith);
-          }
-        ]
+      elim (cases_lt h i) as (λ _. From xs h i) [
+        | inl past ↦ record { place = i + 1; within = omega arith; other = λ y. omega arith; same = ring-above xs h i l past }
+        | inr below ↦ record { place = i; within = omega arith; other = λ y. omega arith; same = ring-below xs h i l below }
       ]
-
-  -- a slot that is no place of what is left
-  pub left-apart : (f g : ℕ → ℕ) (xs : List ℕ) (s h size i : ℕ) → h < length xs → ring_of xs (h + 1) ≡ s → Ring f g (ring_of xs) (length xs) size → i ≤ length (remove xs h) → ring_of (remove xs h) i ≢ s
-  left-apart f g xs s h size i l at_place ring q z =
-      let w = from-of xs h i l q in
-      ring-distinct f g (ring_of xs) (length xs) size w.place (h + 1) ring w.within (omega arith) w.other (sym w.same ∙ z ∙ sym at_place)
 
   -- the ring and the chain of free slots, whatever else is in the table
   pub record Parts (ns : List (Node T)) (xs fs : List ℕ) (free : ℕ) : Type 0 where
@@ -149,6 +113,12 @@ module _ {T : Type 0} (past : T) where
     pub unplaced : (i : ℕ) → i ≤ length xs → ring_of xs i ≢ s
     pub used : (j : ℕ) → j < length fs → free_of fs j ≢ s
 
+  -- the slot at a place has left the ring, and is outside
+  pub record Leaving (ns : List (Node T)) (xs fs : List ℕ) (free s h : ℕ) : Type 0 where
+    pub nodes : Detached past ns (detached past ns s) s (values past ns s) (befores past ns s) (behinds past ns s)
+    pub parts : Parts (detached past ns s) (remove xs h) fs free
+    pub outside : Outside (detached past ns s) (remove xs h) fs s
+
   -- an order has both
   pub parts-of : (ns : List (Node T)) (len free : ℕ) (o : IsOrder past ns len free) → Parts ns o.slots o.frees free
   parts-of ns len free o = record { ring = o.ring; chain = o.chain; apart = o.apart }
@@ -159,21 +129,22 @@ module _ {T : Type 0} (past : T) where
 
   module _ (ns : List (Node T)) (xs fs : List ℕ) (free : ℕ) (o : Parts ns xs fs free) where
     -- what the sentinel has before it is the last slot
-    pub last-is : befores past ns 0 ≡ ring_of xs (length xs)
+    last-is : befores past ns 0 ≡ ring_of xs (length xs)
     last-is = ap (befores past ns) (sym o.ring.close) ∙ o.ring.before (length xs) (omega arith)
 
     pub last-in : befores past ns 0 < length ns
     last-in = rw last-is (o.ring.within (length xs) (omega arith))
 
     -- the slot at a place leaves the ring
-    module _ (s h : ℕ) (l : h < length xs) (e : get_or xs h 0 ≡ s) where
-      pub parts-detached : Parts (detached past ns s) (remove xs h) fs free
-      parts-detached =
-          let near = neighbours ns xs s h l e o.ring in
-          let d = Detached-detached past ns s near.before_within near.behind_within in
-          let ms = detached past ns s in
-          let left = length-remove xs h l in
-          record {
+    pub leaving : (s h : ℕ) → h < length xs → get_or xs h 0 ≡ s → Leaving ns xs fs free s h
+    leaving s h l e =
+        let near = neighbours ns xs s h l e o.ring in
+        let d = Detached-detached past ns s near.before_within near.behind_within in
+        let ms = detached past ns s in
+        let left = length-remove xs h l in
+        record {
+          nodes = d;
+          parts = record {
             ring = rw d.size (ring-remove (behinds past ns) (befores past ns) (behinds past ms) (befores past ms) xs (length ns) h l o.ring
                 (λ i np nq. d.behind i (λ z. np (z ∙ near.before)))
                 (ap (behinds past ms) (sym near.before) ∙ d.behind_at ∙ near.behind)
@@ -182,17 +153,15 @@ module _ {T : Type 0} (past : T) where
             chain = Frees-same (behinds past ns) (behinds past ms) (free_of fs) (length fs) free (length ns) (length ms) o.chain (omega (arith, d.size))
                 (λ j p. d.behind (free_of fs j) (λ z. o.apart h j (omega arith) p (sym near.before ∙ sym z)));
             apart = λ i j p q z. let w = from-of xs h i l p in o.apart w.place j w.within q (sym w.same ∙ z);
-          }
-
-      pub outside-detached : Outside (detached past ns s) (remove xs h) fs s
-      outside-detached =
-          let near = neighbours ns xs s h l e o.ring in
-          let d = Detached-detached past ns s near.before_within near.behind_within in
-          record {
+          };
+          outside = record {
             within = omega (arith, near.within, d.size);
-            unplaced = λ i p. left-apart (behinds past ns) (befores past ns) xs s h (length ns) i l near.at_place o.ring p;
+            unplaced = λ i p z.
+                let w = from-of xs h i l p in
+                ring-distinct (behinds past ns) (befores past ns) (ring_of xs) (length xs) (length ns) w.place (h + 1) o.ring w.within (omega arith) w.other (sym w.same ∙ z ∙ sym near.at_place);
             used = λ j p z. o.apart (h + 1) j (omega arith) p (near.at_place ∙ sym z);
-          }
+          };
+        }
 
     module _ (s : ℕ) (u : Outside ns xs fs s) where
       -- a slot comes behind all others
@@ -211,11 +180,7 @@ module _ {T : Type 0} (past : T) where
                 a.before a.before_head (a.before_at not_start ∙ last-is));
             chain = Frees-same (behinds past ns) (behinds past ms) (free_of fs) (length fs) free (length ns) (length ms) o.chain (omega (arith, a.size))
                 (λ j p. a.behind (free_of fs j) (λ z. o.apart (length xs) j (omega arith) p (sym last-is ∙ sym z)) (u.used j p));
-            apart = λ i j p q. elim (cases_order i (length xs + 1)) as (λ _. ring_of (xs ++ s ∷ []) i ≢ free_of fs j) [
-              | inl z ↦ λ y. u.used j q (sym y ∙ push-last xs s i z)
-              | inr (inl m) ↦ λ y. o.apart i j (omega arith) q (sym (push-low xs s i (omega arith)) ∙ y)
-              | inr (inr m) ↦ absurd (omega arith)
-            ];
+            apart = λ i j p q z. grind (arith, u.used j q, push-last xs s i, push-low xs s i, o.apart i j);
           }
 
       -- a slot comes before the free ones
@@ -230,14 +195,13 @@ module _ {T : Type 0} (past : T) where
                 (λ i p. f_is (ring_of xs i) (u.unplaced i p)) (λ i p. set-keeps past (λ n. n.before) ns s v (ring_of xs (i + 1)) u.within refl);
             chain = rw size (more-frees (behinds past ns) (behinds past ms) fs free (length ns) s o.chain u.within u.used
                 (λ i p. f_is (free_of fs i) (u.used i p)) (ap (λ n. n.behind) (set-same past ns s v u.within)));
-            apart = λ i j p q. elim (cases_order j 0) as (λ _. ring_of xs i ≢ free_of (s ∷ fs) j) [
-              | inl z ↦ rw z (u.unplaced i p)
-              | inr (inl k) ↦ absurd (omega arith)
-              | inr (inr k) ↦ λ z. o.apart i (j - 1) p (omega arith) (z ∙ ap (free_of (s ∷ fs)) (omega arith) ∙ ring-next-free s fs (j - 1))
-            ];
+            apart = λ i j p q. elim j as (λ j. j < length (s ∷ fs) → ring_of xs i ≢ free_of (s ∷ fs) j) [
+              | zero ↦ λ _. u.unplaced i p
+              | suc k ↦ λ l. o.apart i k p (omega arith)
+            ] q;
           }
 
-    -- the first free slot gets a number and is no longer free
+    -- the first free slot gets a value and is no longer free
     module _ (n : T) (some : 0 < length fs) where
       first-in : free < length ns
       first-in = rw (o.chain.first some) (o.chain.within 0 some)

@@ -15,39 +15,16 @@ Ring-detach f g f' g' r r' n size h ring le fo fs go gs low high =
       | inr (inl l) ↦ ap f' (low i (omega arith)) ∙ fo (r i) (ring.apart i h l (omega arith)) (ring.apart i (h + 1) (omega arith) (omega arith)) ∙ ring.behind i (omega arith) ∙ sym (low (i + 1) (omega arith))
       | inr (inr l) ↦ ap f' (high i l) ∙ fo (r (i + 1)) (λ e. ring.apart h (i + 1) (omega arith) (omega arith) (sym e)) (λ e. ring.apart (h + 1) (i + 1) (omega arith) (omega arith) (sym e)) ∙ ring.behind (i + 1) (omega arith) ∙ sym (high (i + 1) (omega arith))
     ] in
-    let to_start : (i : ℕ) → 0 < i → i ≤ n + 1 → (k : ℕ) → k ≡ n + 1 + 1 → r i ≢ r k = λ i p q k same e. ring.apart 0 i p q (ring.start ∙ sym (e ∙ ap r same ∙ ring.close)) in
-    let past : (i : ℕ) → 0 < i → i ≤ n + 1 + 1 → i ≢ h + 2 → r i ≢ r (h + 2) = λ i p q ne e. elim (cases_order i (h + 2)) as (λ _. ⊥) [
-      | inl same ↦ ne same
-      | inr (inl l) ↦ elim (cases_order h n) as (λ _. ⊥) [
-        | inl last ↦ to_start i p (omega arith) (h + 2) (omega arith) e
-        | inr (inl below) ↦ ring.apart i (h + 2) l (omega arith) e
-        | inr (inr above) ↦ omega arith
-      ]
-      | inr (inr l) ↦ elim (cases_order i (n + 1 + 1)) as (λ _. ⊥) [
-        | inl last ↦ to_start (h + 2) (omega arith) (omega arith) i last (sym e)
-        | inr (inl below) ↦ ring.apart (h + 2) i l (omega arith) (sym e)
-        | inr (inr above) ↦ omega arith
-      ]
-    ] in
+    let past : (i : ℕ) → 0 < i → i ≤ n + 2 → i ≢ h + 2 → r i ≢ r (h + 2) = λ i p q ne e.
+    grind (arith, ring.start, ring.close, ring.apart i (h + 2), ring.apart (h + 2) i, ring.apart 0 i, ring.apart 0 (h + 2)) in
     let before_is : (i : ℕ) → i ≤ n → g' (r' (i + 1)) ≡ r' i = λ i q. elim (cases_order i h) as (λ _. g' (r' (i + 1)) ≡ r' i) [
       | inl e ↦ ap g' (high (i + 1) (omega arith)) ∙ ap (λ k. g' (r k)) (omega arith) ∙ gs ∙ sym (ap r e) ∙ sym (low i (omega arith))
       | inr (inl l) ↦ ap g' (low (i + 1) (omega arith)) ∙ go (r (i + 1)) (past (i + 1) (omega arith) (omega arith) (λ e. omega arith)) ∙ ring.before i (omega arith) ∙ sym (low i (omega arith))
       | inr (inr l) ↦ ap g' (high (i + 1) (omega arith)) ∙ go (r (i + 1 + 1)) (past (i + 1 + 1) (omega arith) (omega arith) (λ e. omega arith)) ∙ ring.before (i + 1) (omega arith) ∙ sym (high i l)
     ] in
-    let apart_is : (i j : ℕ) → i < j → j ≤ n → r' i ≢ r' j = λ i j l q. elim (cases_order i h) as (λ _. r' i ≢ r' j) [
-      | inl e ↦ rw (low i (omega arith), high j (omega arith)) (ring.apart i (j + 1) (omega arith) (omega arith))
-      | inr (inl k) ↦ elim (cases_order j h) as (λ _. r' i ≢ r' j) [
-        | inl e ↦ rw (low i (omega arith), low j (omega arith)) (ring.apart i j (omega arith) (omega arith))
-        | inr (inl m) ↦ rw (low i (omega arith), low j (omega arith)) (ring.apart i j (omega arith) (omega arith))
-        | inr (inr m) ↦ rw (low i (omega arith), high j (omega arith)) (ring.apart i (j + 1) (omega arith) (omega arith))
-      ]
-      | inr (inr k) ↦ rw (high i (omega arith), high j (omega arith)) (ring.apart (i + 1) (j + 1) (omega arith) (omega arith))
-    ] in
-    let within_is : (i : ℕ) → i ≤ n → r' i < size = λ i q. elim (cases_order i h) as (λ _. r' i < size) [
-      | inl e ↦ rw (low i (omega arith)) (ring.within i (omega arith))
-      | inr (inl k) ↦ rw (low i (omega arith)) (ring.within i (omega arith))
-      | inr (inr k) ↦ rw (high i (omega arith)) (ring.within (i + 1) (omega arith))
-    ] in
+    let apart_is : (i j : ℕ) → i < j → j ≤ n → r' i ≢ r' j = λ i j l q z.
+    grind (arith, low i, low j, high i, high j, ring.apart i j, ring.apart i (j + 1), ring.apart (i + 1) (j + 1)) in
+    let within_is : (i : ℕ) → i ≤ n → r' i < size = λ i q. grind (arith, low i, high i, ring.within i, ring.within (i + 1)) in
     record {
       start = low 0 (omega arith) ∙ ring.start;
       close = high (n + 1) (omega arith) ∙ ring.close;
@@ -65,29 +42,17 @@ pub Ring-attach : (f g f' g' r r' : ℕ → ℕ) (n size s : ℕ) → Ring f g r
     → ((i : ℕ) → i ≤ n → r' i ≡ r i) → r' (n + 1) ≡ s → r' (n + 2) ≡ 0
     → Ring f' g' r' (n + 1) size
 Ring-attach f g f' g' r r' n size s ring inside fresh fo fn fs go gn gs low here past =
-    let behind_is : (i : ℕ) → i ≤ n + 1 → f' (r' i) ≡ r' (i + 1) = λ i q. elim (cases_order i n) as (λ _. f' (r' i) ≡ r' (i + 1)) [
-      | inl e ↦ ap f' (low i (omega arith)) ∙ ap (λ k. f' (r k)) e ∙ fn ∙ sym here ∙ ap r' (omega arith)
-      | inr (inl l) ↦ ap f' (low i (omega arith)) ∙ fo (r i) (ring.apart i n l (omega arith)) (fresh i (omega arith)) ∙ ring.behind i (omega arith) ∙ sym (low (i + 1) (omega arith))
-      | inr (inr l) ↦ let e : i ≡ n + 1 = omega arith in ap (λ k. f' (r' k)) e ∙ ap f' here ∙ fs ∙ sym past ∙ ap r' (omega arith)
-    ] in
-    let before_is : (i : ℕ) → i ≤ n + 1 → g' (r' (i + 1)) ≡ r' i = λ i q. elim (cases_order i n) as (λ _. g' (r' (i + 1)) ≡ r' i) [
-      | inl e ↦ ap (λ k. g' (r' k)) (omega arith) ∙ ap g' here ∙ gs ∙ sym (ap r e) ∙ sym (low i (omega arith))
-      | inr (inl l) ↦ ap g' (low (i + 1) (omega arith)) ∙ go (r (i + 1)) (λ z. ring.apart 0 (i + 1) (omega arith) (omega arith) (ring.start ∙ sym z)) (fresh (i + 1) (omega arith)) ∙ ring.before i (omega arith) ∙ sym (low i (omega arith))
-      | inr (inr l) ↦ let e : i ≡ n + 1 = omega arith in ap (λ k. g' (r' k)) (omega arith) ∙ ap g' past ∙ gn ∙ sym here ∙ ap r' (sym e)
-    ] in
-    let apart_is : (i j : ℕ) → i < j → j ≤ n + 1 → r' i ≢ r' j = λ i j l q. elim (cases_order j (n + 1)) as (λ _. r' i ≢ r' j) [
-      | inl e ↦ λ same. fresh i (omega arith) (sym (low i (omega arith)) ∙ same ∙ ap r' e ∙ here)
-      | inr (inl k) ↦ rw (low i (omega arith), low j (omega arith)) (ring.apart i j l (omega arith))
-      | inr (inr k) ↦ absurd (omega arith)
-    ] in
-    let within_is : (i : ℕ) → i ≤ n + 1 → r' i < size = λ i q. elim (cases_order i (n + 1)) as (λ _. r' i < size) [
-      | inl e ↦ rw (e, here) inside
-      | inr (inl k) ↦ rw (low i (omega arith)) (ring.within i (omega arith))
-      | inr (inr k) ↦ absurd (omega arith)
-    ] in
+    let start_is : r' 0 ≡ 0 = low 0 (omega arith) ∙ ring.start in
+    let close_is : r' (n + 1 + 1) ≡ 0 = ap r' (omega arith) ∙ past in
+    let behind_is : (i : ℕ) → i ≤ n + 1 → f' (r' i) ≡ r' (i + 1) = λ i q.
+    grind (arith, low i, low (i + 1), here, past, fo (r i), fn, fs, fresh i, ring.apart i n, ring.behind i) in
+    let before_is : (i : ℕ) → i ≤ n + 1 → g' (r' (i + 1)) ≡ r' i = λ i q.
+    grind (arith, low i, low (i + 1), here, past, go (r (i + 1)), gn, gs, fresh (i + 1), ring.start, ring.apart 0 (i + 1), ring.before i) in
+    let apart_is : (i j : ℕ) → i < j → j ≤ n + 1 → r' i ≢ r' j = λ i j l q z. grind (arith, low i, low j, fresh i, here, ring.apart i j) in
+    let within_is : (i : ℕ) → i ≤ n + 1 → r' i < size = λ i q. grind (arith, low i, here, ring.within i) in
     record {
-      start = low 0 (omega arith) ∙ ring.start;
-      close = ap r' (omega arith) ∙ past;
+      start = start_is;
+      close = close_is;
       behind = behind_is;
       before = before_is;
       apart = apart_is;
@@ -96,11 +61,7 @@ Ring-attach f g f' g' r r' n size s ring inside fresh fo fn fs go gn gs low here
 
 -- every place is in the table, also the last, which is the first again
 pub Ring-within : (f g r : ℕ → ℕ) (n size : ℕ) → Ring f g r n size → (i : ℕ) → i ≤ n + 1 → r i < size
-Ring-within f g r n size ring i q = elim (cases_order i (n + 1)) as (λ _. r i < size) [
-  | inl e ↦ rw (e, ring.close) (omega (arith, ring.within 0 (omega arith)))
-  | inr (inl l) ↦ ring.within i (omega arith)
-  | inr (inr l) ↦ absurd (omega arith)
-]
+Ring-within f g r n size ring i q = grind (arith, ring.close, ring.within 0, ring.within i)
 
 -- links that agree at each place keep the ring
 pub Ring-same : (f g f' g' r : ℕ → ℕ) (n size size' : ℕ) → Ring f g r n size → size ≤ size'

@@ -1,7 +1,9 @@
 -- What each call leaves of the tickets and of their items.
-use Rattle.std.proofs.Common.{◌≡◌, ◌≢◌, ℕ, suc, ◌+◌, ◌<◌, ◌≤◌, Bool, true, false, cond, ◌&&◌, T, List, [], ◌∷◌, ◌++◌, map, length, Option, Some, None, IsSome, IfSome, is_some, nat_eq, All, inl, inr, refl, sym, ap, subst, ◌∙◌, arith, rules, slice_get}
-use Rattle.std.proofs.lemmas.Bool.{cases_eq, cases_lt, cases_Bool, eq-eqb, ne_eqb, cond-true, cond-false, false≢true}
-use Rattle.std.specs.FinMap.{FinMap, empty, entries, entries_sorted, get-entries, from_entries, insert, remove, len, len-insert, len-empty, get-empty, get-insert, get-remove, same_map, nat_cmp-IsAntisymmetric}
+use Rattle.std.proofs.Common.{◌≡◌, ◌≢◌, ℕ, suc, ◌<◌, ◌≤◌, Bool, true, false, cond, ◌&&◌, T, List, [], ◌∷◌, ◌++◌, map, length, Option, Some, None, IsSome, IsNone, IfSome, is_some, nat_eq, All, inl, inr, refl, sym, ap, subst, ◌∙◌, arith, rules, slice_get}
+use Rattle.std.proofs.lemmas.Bool.{cases_lt, eq-eqb, ne_eqb, cond-true, cond-false, false≢true}
+use Rattle.std.proofs.lemmas.Bool.Decides.{nat_tests}
+use Rattle.moka_links.proofs.FinMaps.{get-put, get-taken, len-inserted}
+use Rattle.std.specs.FinMap.{FinMap, empty, entries, entries_sorted, get-entries, from_entries, insert, remove, len, len-empty, get-empty, get-insert, same_map, nat_cmp-IsAntisymmetric}
 use Rattle.std.specs.FinMap.Entries.{find, below_all, is_sorted}
 use Rattle.std.specs.FinMap as map
 use Rattle.std.specs.Cmp.{nat_cmp_total, nat_eq_equiv, unsigned_tied}
@@ -11,18 +13,10 @@ use Rattle.std.proofs.lemmas.Map.Keys.{IsDistinct-tail}
 use Rattle.std.proofs.lemmas.Map.Views.{All-values_from_lookup}
 use Rattle.std.specs.Map.{lookup, remove_entry, keys_of, values_of}
 use Rattle.std.specs.Option.{option_map}
-use Rattle.std.specs.Ordering.{nat_cmp, eq_by_cmp, is_lt}
-use Rattle.std.specs.declared.cmp.Ordering.TheVariants.{Less}
+use Rattle.std.specs.Ordering.{nat_cmp, is_lt}
 use Rattle.moka_structures.specs.Tickets.{items_of, slot_of, IsBelowAll, AreRising, IsTied}
 use Rattle.moka_structures.specs.declared.ticket_table.Waiting.{Waiting}
 use Rattle.moka_structures.proofs.Linked.{linked-added, linked-removed}
-
--- the two tests of tickets agree
-pub eq-tests : (q n : ℕ) → eq_by_cmp nat_cmp q n ≡ nat_eq n q
-eq-tests q n = elim (cases_eq q n) as (λ _. eq_by_cmp nat_cmp q n ≡ nat_eq n q) [
-  | inl e ↦ unsigned_tied q n ∙ eq-eqb q n e ∙ sym (eq-eqb n q (sym e))
-  | inr ne ↦ unsigned_tied q n ∙ ne_eqb q n ne ∙ sym (ne_eqb n q (λ e. ne (sym e)))
-]
 
 -- where an item is, a slot is
 slot-from : {T : Type 0} (o : Option (Waiting T)) → IsSome (option_map (λ w. w.item) o) → (s : ℕ) × (option_map (λ w. w.slot) o ≡ Some s)
@@ -39,38 +33,17 @@ pub same-some : {T : Type 0} (o : Option (Waiting T)) → is_some o ≡ is_some 
 same-some None = refl
 same-some (Some w) = refl
 
--- the item of a choice is the choice of the items
-pushed-in : {T : Type 0} (b : Bool) (v o : Option (Waiting T)) → option_map (λ w. w.item) (cond b v o) ≡ cond b (option_map (λ w. w.item) v) (option_map (λ w. w.item) o)
-pushed-in true v o = refl
-pushed-in false v o = refl
-
 -- a look-up in the map of the entries is one in the entries
 get-entry : {T : Type 0} (es : List (ℕ × Waiting T)) (q : ℕ) → map.get (from_entries {R = nat_cmp} (map (λ e. (e.0, e.1.item)) es)) q ≡ option_map (λ w. w.item) (lookup (nat_eq q) es)
 get-entry [] q = get-empty nat_cmp q
 get-entry (e ∷ es) q =
     let rest = from_entries {R = nat_cmp} (map (λ e. (e.0, e.1.item)) es) in
-    get-insert nat_cmp_total rest e.0 e.1.item q
-    ∙ elim (cases_Bool (nat_eq q e.0)) as (λ _. cond (eq_by_cmp nat_cmp q e.0) (Some e.1.item) (map.get rest q) ≡ option_map (λ w. w.item) (lookup (nat_eq q) (e ∷ es))) [
-      | inl t ↦ cond-true (eq_by_cmp nat_cmp q e.0) (Some e.1.item) (map.get rest q) (unsigned_tied q e.0 ∙ t) ∙ ap (option_map (λ w. w.item)) (sym (cond-true (nat_eq q e.0) (Some e.1) (lookup (nat_eq q) es) t))
-      | inr t ↦ cond-false (eq_by_cmp nat_cmp q e.0) (Some e.1.item) (map.get rest q) (unsigned_tied q e.0 ∙ t) ∙ get-entry es q ∙ ap (option_map (λ w. w.item)) (sym (cond-false (nat_eq q e.0) (Some e.1) (lookup (nat_eq q) es) t))
-    ]
+    grind (arith, nat_tests, get-insert nat_cmp_total rest e.0 e.1.item q, unsigned_tied q e.0, get-entry es q)
 
 -- where a slot is, an item is
 item-from : {T : Type 0} (o : Option (Waiting T)) {g : Option T} (s : ℕ) → option_map (λ w. w.slot) o ≡ Some s → g ≡ option_map (λ w. w.item) o → IsSome g
 item-from None s h e = absurd (let no : None ≡ Some s = h in cc)
 item-from (Some w) s h e = subst (λ o. IsSome o) (sym e) refl
-
--- what is left was there
-pub left-of : {X : Type 0} (b : Bool) (o : Option X) → IsSome (cond b None o) → IsSome o
-left-of true o h = absurd (false≢true h)
-left-of false o h = h
-
--- what is there is new or was there
-pub newest-of : {X : Type 0} (t q : ℕ) (v o : Option X) → (IsSome o → q < t) → IsSome (cond (nat_eq t q) v o) → q ≤ t
-newest-of t q v o older h = elim (cases_eq t q) as (λ _. q ≤ t) [
-  | inl e ↦ omega arith
-  | inr ne ↦ let l = older (subst (λ o. IsSome o) (cond-false (nat_eq t q) v o (ne_eqb t q ne)) h) in omega arith
-]
 
 -- a fact of what is there, if something is
 if-some : (o : Option ℕ) (P : ℕ → Type 0) → ((t : ℕ) → o ≡ Some t → P t) → IfSome o P
@@ -82,13 +55,17 @@ pub not-some : {X : Type 0} (o : Option X) → (IsSome o → ⊥) → o ≡ None
 not-some None h = refl
 not-some (Some x) h = absurd (h refl)
 
+-- an item is out under the ticket, and none under a lower one
+abbrev pub IsLowest : {X : Type 0} → ℕ → FinMap nat_cmp X → Type 0
+IsLowest t m = IsSome (map.get m t) × ((q : ℕ) → IsSome (map.get m q) → t ≤ q)
+
+-- nothing is out under a ticket above all others
+pub newest-fresh : {X : Type 0} (m : FinMap nat_cmp X) (t : ℕ) → ((q : ℕ) → IsSome (map.get m q) → q < t) → map.get m t ≡ None
+newest-fresh m t newest = not-some (map.get m t) (λ some. omega (arith, newest t some))
+
 no-lookup : (ms : List (ℕ × ℕ)) (test : ℕ → Bool) (n : ℕ) → length ms ≡ 0 → lookup test ms ≡ Some n → ⊥
 no-lookup [] test n h e = let no : None ≡ Some n = e in cc
 no-lookup (m ∷ ms) test n h e = omega arith
-
--- no entry has this ticket
-not-in : {T : Type 0} (es : List (ℕ × Waiting T)) (t : ℕ) → lookup (nat_eq t) es ≡ None → map.contains_key (from_entries {R = nat_cmp} (map (λ e. (e.0, e.1.item)) es)) t ≡ false
-not-in es t none = ap is_some (get-entry es t ∙ ap (option_map (λ w. w.item)) none)
 
 -- a key that none of the others equals is not found
 lookup-gone : {T : Type 0} (k : ℕ) (es : List (ℕ × Waiting T)) → AllByRecursion (λ y. nat_eq k y ≡ false) (keys_of es) → lookup (nat_eq k) es ≡ None
@@ -105,9 +82,8 @@ pub len-entries : {T : Type 0} (es : List (ℕ × Waiting T)) → IsDistinct nat
 len-entries {T} [] d = len-empty nat_cmp T
 len-entries (e ∷ es) d =
     let rest = from_entries {R = nat_cmp} (map (λ e. (e.0, e.1.item)) es) in
-    len-insert nat_cmp_total rest e.0 e.1.item
-    ∙ cond-false (map.contains_key rest e.0) (len rest) (len rest + 1) (not-in es e.0 (lookup-head e.0 es d))
-    ∙ ap (λ n. n + 1) (len-entries es (IsDistinct-tail nat_eq e.0 (keys_of es) d)) ∙ omega arith
+    let fresh : map.get rest e.0 ≡ None = get-entry es e.0 ∙ ap (option_map (λ w. w.item)) (lookup-head e.0 es d) in
+    omega (arith, len-inserted rest e.0 e.1.item fresh, len-entries es (IsDistinct-tail nat_eq e.0 (keys_of es) d))
 
 module _ {T S : Type 0} (m : HashMap ℕ (Waiting T) S) where
   -- a look-up among the items is one in the table
@@ -122,33 +98,29 @@ module _ {T S : Type 0} (m : HashMap ℕ (Waiting T) S) where
   pub none-slot : (q : ℕ) → (IsSome (map.get (items_of m) q) → ⊥) → slot_of m q ≡ None
   none-slot q h = none-from (get nat_eq m q) (sym (get-items q) ∙ not-some (map.get (items_of m) q) h)
 
-  module _ (n : HashMap ℕ (Waiting T) S) where
-    -- the same look-ups, the same items
-    pub items-same : ((q : ℕ) → get nat_eq n q ≡ get nat_eq m q) → items_of n ≡ items_of m
-    items-same h = same_map nat_cmp_total nat_cmp-IsAntisymmetric (items_of n) (items_of m) (λ q. get-entry n.entries q ∙ ap (option_map (λ w. w.item)) (h q) ∙ sym (get-items q))
+module _ {T S : Type 0} (m n : HashMap ℕ (Waiting T) S) where
+  -- the same look-ups show the same items
+  pub items-same : ((q : ℕ) → get nat_eq n q ≡ get nat_eq m q) → items_of n ≡ items_of m
+  items-same h = same_map nat_cmp_total nat_cmp-IsAntisymmetric (items_of n) (items_of m) (λ q. get-items n q ∙ ap (option_map (λ w. w.item)) (h q) ∙ sym (get-items m q))
 
-    module _ (ticket : ℕ) (w : Option (Waiting T)) (updates : (q : ℕ) → get nat_eq n q ≡ cond (nat_eq ticket q) w (get nat_eq m q)) where
-      -- every look-up after one entry changed
-      pub gets-updated : (q : ℕ) → map.get (items_of n) q ≡ cond (nat_eq ticket q) (option_map (λ w. w.item) w) (map.get (items_of m) q)
-      gets-updated q = get-entry n.entries q ∙ ap (option_map (λ w. w.item)) (updates q) ∙ pushed-in (nat_eq ticket q) w (get nat_eq m q) ∙ ap (cond (nat_eq ticket q) (option_map (λ w. w.item) w)) (sym (get-items q))
+  module _ (ticket : ℕ) (w : Option (Waiting T)) (updates : (q : ℕ) → get nat_eq n q ≡ cond (nat_eq ticket q) w (get nat_eq m q)) where
+    -- the kept slots after one entry changed
+    pub slot-changed : slot_of n ticket ≡ option_map (λ w. w.slot) w
+    slot-changed = ap (option_map (λ w. w.slot)) (updates ticket ∙ cond-true (nat_eq ticket ticket) w (get nat_eq m ticket) (eq-eqb ticket ticket refl))
 
-      -- the kept slots after it
-      pub slot-changed : slot_of n ticket ≡ option_map (λ w. w.slot) w
-      slot-changed = ap (option_map (λ w. w.slot)) (updates ticket ∙ cond-true (nat_eq ticket ticket) w (get nat_eq m ticket) (eq-eqb ticket ticket refl))
+    -- the kept slots of the other tickets
+    pub slot-others : (q : ℕ) → q ≢ ticket → slot_of n q ≡ slot_of m q
+    slot-others q ne = ap (option_map (λ w. w.slot)) (updates q ∙ cond-false (nat_eq ticket q) w (get nat_eq m q) (ne_eqb ticket q (λ e. ne (sym e))))
 
-      -- the kept slots of the other tickets
-      pub slot-others : (q : ℕ) → q ≢ ticket → slot_of n q ≡ slot_of m q
-      slot-others q ne = ap (option_map (λ w. w.slot)) (updates q ∙ cond-false (nat_eq ticket q) w (get nat_eq m q) (ne_eqb ticket q (λ e. ne (sym e))))
+  -- the items with one more
+  pub items-put : (ticket : ℕ) (w : Waiting T) → ((q : ℕ) → get nat_eq n q ≡ cond (nat_eq ticket q) (Some w) (get nat_eq m q)) → items_of n ≡ insert (items_of m) ticket w.item
+  items-put ticket w updates = same_map nat_cmp_total nat_cmp-IsAntisymmetric (items_of n) (insert (items_of m) ticket w.item) (λ q.
+      grind (arith, nat_tests, updates q, get-items m q, get-items n q, get-put (items_of m) ticket w.item q))
 
-    -- the items with one more
-    pub items-put : (ticket : ℕ) (w : Waiting T) → ((q : ℕ) → get nat_eq n q ≡ cond (nat_eq ticket q) (Some w) (get nat_eq m q)) → items_of n ≡ insert (items_of m) ticket w.item
-    items-put ticket w updates = same_map nat_cmp_total nat_cmp-IsAntisymmetric (items_of n) (insert (items_of m) ticket w.item) (λ q.
-        gets-updated ticket (Some w) updates q ∙ ap (λ b. cond b (Some w.item) (map.get (items_of m) q)) (sym (eq-tests q ticket)) ∙ sym (get-insert nat_cmp_total (items_of m) ticket w.item q))
-
-    -- the items without one
-    pub items-taken : (ticket : ℕ) → ((q : ℕ) → get nat_eq n q ≡ cond (nat_eq ticket q) None (get nat_eq m q)) → items_of n ≡ remove (items_of m) ticket
-    items-taken ticket updates = same_map nat_cmp_total nat_cmp-IsAntisymmetric (items_of n) (remove (items_of m) ticket) (λ q.
-        gets-updated ticket None updates q ∙ ap (λ b. cond b None (map.get (items_of m) q)) (sym (eq-tests q ticket)) ∙ sym (get-remove nat_cmp_total (items_of m) ticket q))
+  -- the items without one
+  pub items-taken : (ticket : ℕ) → ((q : ℕ) → get nat_eq n q ≡ cond (nat_eq ticket q) None (get nat_eq m q)) → items_of n ≡ remove (items_of m) ticket
+  items-taken ticket updates = same_map nat_cmp_total nat_cmp-IsAntisymmetric (items_of n) (remove (items_of m) ticket) (λ q.
+      grind (arith, nat_tests, updates q, get-items m q, get-items n q, get-taken (items_of m) ticket q))
 
 -- the tickets after a member left
 below-without : (t : ℕ) (test : ℕ → Bool) (ms : List (ℕ × ℕ)) → IsBelowAll t ms → IsBelowAll t (remove_entry test ms)
@@ -180,11 +152,7 @@ rising-pushed (m ∷ ms) slot ticket all h =
 -- the first ticket is the least
 below-found : (t : ℕ) (test : ℕ → Bool) (ms : List (ℕ × ℕ)) (n : ℕ) → IsBelowAll t ms → lookup test ms ≡ Some n → t < n
 below-found t test [] n h e = absurd (let no : None ≡ Some n = e in cc)
-below-found t test (m ∷ ms) n h e = elim (cases_Bool (test m.0)) as (λ _. t < n) [
-  | inl y ↦ let same : Some m.1 ≡ Some n = sym (cond-true (test m.0) (Some m.1) (lookup test ms) y) ∙ e in
-      let is : m.1 ≡ n = cc in omega (arith, h.0)
-  | inr y ↦ below-found t test ms n h.1 (sym (cond-false (test m.0) (Some m.1) (lookup test ms) y) ∙ e)
-]
+below-found t test (m ∷ ms) n h e = grind (arith, h.0, below-found t test ms n h.1)
 
 -- the first stands before all that a look-up finds
 pub first-least : (ms : List (ℕ × ℕ)) (slot t : ℕ) → slice_get ms 0 ≡ Some (slot, t) → AreRising ms → (test : ℕ → Bool) (n : ℕ) → lookup test ms ≡ Some n → t ≤ n
@@ -193,17 +161,9 @@ first-least (m ∷ ms) slot t here h test n e =
     let same : Some m ≡ Some (slot, t) = here in
     let is : m ≡ (slot, t) = cc in
     let ticket : m.1 ≡ t = ap (λ (p : ℕ × ℕ). p.1) is in
-    elim (cases_Bool (test m.0)) as (λ _. t ≤ n) [
-      | inl y ↦ let found : Some m.1 ≡ Some n = sym (cond-true (test m.0) (Some m.1) (lookup test ms) y) ∙ e in
-          let it : m.1 ≡ n = cc in omega arith
-      | inr y ↦ let later = below-found m.1 test ms n h.0 (sym (cond-false (test m.0) (Some m.1) (lookup test ms) y) ∙ e) in omega arith
-    ]
+    grind (arith, below-found m.1 test ms n h.0)
 
--- a lower key compares as less
-cmp_less : (t k : ℕ) → t < k → nat_cmp t k ≡ Less
-cmp_less t k l = grind arith
-
--- and no other does
+-- no other key than a lower one compares as less
 cmp_not_less : (t k : ℕ) → k ≤ t → is_lt (nat_cmp t k) ≡ false
 cmp_not_less t k l = grind arith
 
@@ -214,10 +174,14 @@ split-and false b h = absurd h
 
 -- the keys of a map of items stand in rising order
 less-key : (t k : ℕ) (b : Bool) → T (is_lt (nat_cmp t k) && b) → (t < k) × T b
-less-key t k b h = elim (cases_lt t k) as (λ _. (t < k) × T b) [
-  | inl l ↦ (l, subst (λ o. T (is_lt o && b)) (cmp_less t k l) h)
-  | inr g ↦ absurd (subst (λ c. T (c && b)) (cmp_not_less t k g) h)
-]
+less-key t k b h =
+    let both = split-and (is_lt (nat_cmp t k)) b h in (
+      elim (cases_lt t k) as (λ _. t < k) [
+        | inl l ↦ l
+        | inr g ↦ absurd (subst T (cmp_not_less t k g) both.0)
+      ],
+      both.1,
+    )
 
 module _ {X : Type 0} where
   -- a key that is found among keys above k is above k
@@ -225,27 +189,19 @@ module _ {X : Type 0} where
   found-above t k [] h f = absurd (false≢true f)
   found-above t k (e ∷ es) h f =
       let w = less-key k e.0 (below_all nat_cmp k es) h in
-      elim (cases_eq t e.0) as (λ _. k < t) [
-        | inl same ↦ omega (arith, w.0)
-        | inr ne ↦ found-above t k es w.1 (subst (λ b. IsSome (cond b (Some e.1) (find nat_cmp t es))) (unsigned_tied t e.0 ∙ ne_eqb t e.0 ne) f)
-      ]
+      grind (arith, nat_tests, unsigned_tied t e.0, w.0, found-above t k es w.1)
 
   -- the least key of a sorted list stands first
   first-of : (t : ℕ) (es : List (ℕ × X)) → T (is_sorted nat_cmp es) → IsSome (find nat_cmp t es) → ((q : ℕ) → IsSome (find nat_cmp q es) → t ≤ q) → slice_get (map (λ e. e.0) es) 0 ≡ Some t
   first-of t [] sorted f least = absurd (false≢true f)
   first-of t (e ∷ es) sorted f least =
       let parts = split-and (below_all nat_cmp e.0 es) (is_sorted nat_cmp es) sorted in
-      let lower : t ≤ e.0 = least e.0 (subst (λ b. IsSome (cond b (Some e.1) (find nat_cmp e.0 es))) (sym (unsigned_tied e.0 e.0 ∙ eq-eqb e.0 e.0 refl)) refl) in
-      elim (cases_eq t e.0) as (λ _. Some e.0 ≡ Some t) [
-        | inl same ↦ ap Some (sym same)
-        | inr ne ↦
-            let above : e.0 < t = found-above t e.0 es parts.0 (subst (λ b. IsSome (cond b (Some e.1) (find nat_cmp t es))) (unsigned_tied t e.0 ∙ ne_eqb t e.0 ne) f) in
-            absurd (omega arith)
-      ]
+      let here : IsSome (find nat_cmp e.0 (e ∷ es)) = grind (arith, nat_tests, unsigned_tied e.0 e.0) in
+      grind (arith, nat_tests, unsigned_tied t e.0, least e.0 here, found-above t e.0 es parts.0)
 
   -- the least key stands first
-  pub first-key : (m : FinMap nat_cmp X) (t : ℕ) → IsSome (map.get m t) → ((q : ℕ) → IsSome (map.get m q) → t ≤ q) → slice_get (map.keys m) 0 ≡ Some t
-  first-key m t f least = first-of t (entries m) (entries_sorted m) (subst (λ o. IsSome o) (get-entries m t) f) (λ q h. least q (subst (λ o. IsSome o) (sym (get-entries m q)) h))
+  pub first-key : (m : FinMap nat_cmp X) (t : ℕ) → IsLowest t m → slice_get (map.keys m) 0 ≡ Some t
+  first-key m t lowest = first-of t (entries m) (entries_sorted m) (subst (λ o. IsSome o) (get-entries m t) lowest.0) (λ q h. lowest.1 q (subst (λ o. IsSome o) (sym (get-entries m q)) h))
 
   -- a map that answers nothing is empty
   pub empty-map : (m : FinMap nat_cmp X) → ((q : ℕ) → map.get m q ≡ None) → m ≡ empty
@@ -255,18 +211,18 @@ module _ {X : Type 0} where
   pub some-empty : (m : FinMap nat_cmp X) (k : ℕ) → IsSome (map.get m k) → m ≡ empty → ⊥
   some-empty m k h e = false≢true (subst (λ o. IsSome o) (ap (λ n. map.get n k) e ∙ get-empty nat_cmp k) h)
 
+  -- so it has a lowest key where there is one
+  pub some-lowest : (m : FinMap nat_cmp X) (k : ℕ) → IsSome (map.get m k) → (IsNone (Some k) → m ≡ empty) × (m ≡ empty → IsNone (Some k))
+  some-lowest m k h = (λ no. absurd (let x = no in cc), λ e. absurd (some-empty m k h e))
+
   -- a list with no entries has no first key
   no-keys : (es : List (ℕ × X)) → length es ≡ 0 → slice_get (map (λ e. e.0) es) 0 ≡ None
   no-keys [] h = refl
   no-keys (e ∷ es) h = absurd (omega arith)
 
-  -- the length of a map is that of its entries
-  len-entries_of : (m : FinMap nat_cmp X) → len m ≡ length (entries m)
-  len-entries_of m = map.len-entries m
-
   -- the empty map has no first key
   pub no-first : (m : FinMap nat_cmp X) → m ≡ empty → slice_get (map.keys m) 0 ≡ None
-  no-first m h = no-keys (entries m) (sym (len-entries_of m) ∙ ap len h ∙ len-empty nat_cmp X)
+  no-first m h = no-keys (entries m) (sym (map.len-entries m) ∙ ap len h ∙ len-empty nat_cmp X)
 
 -- the ticket that stands first
 module _ {T S : Type 0} (ms : List (ℕ × ℕ)) (m : HashMap ℕ (Waiting T) S) (tied : IsTied ms m) where

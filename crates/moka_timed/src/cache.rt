@@ -15,7 +15,7 @@ ghost use Rattle.moka_parts.specs.declared.records.Record.{Record};
 ghost use Rattle.moka_engine.specs.Config.{new_engine};
 ghost use Rattle.moka_drive.specs.Counters.{after_look_up};
 ghost use Rattle.moka_parts.specs.Hashing.{key_hash};
-ghost use Rattle.moka_drive.specs.Saved.{AreAllMembers};
+ghost use Rattle.moka_drive.specs.Saved.{HasOnlyMembers};
 ghost use Rattle.moka_drive.specs.Unsent.{IsThere, ShowsWrites};
 ghost use Rattle.moka_drive.specs.Synchronous.{fresh, Makes, meaning_of, hears_clones, Just, own_run, InsertsEntry, GetsValue, RemovesEntry, removed, invalidated, taken_out, GetsWith, GetsWithIfMade, GetsWithIfNoError};
 
@@ -111,7 +111,7 @@ impl<
         self.cache.name()
     }
 
-    /// Capacity and times, as they were chosen.
+    /// Capacity and times, as they are set.
     pub fn policy(&self) -> Policy
         ensures { result ≡ limits_of self.now.cache.engine.state }
     {
@@ -373,7 +373,7 @@ impl<
         ensures made { (now : Instant) × (read : C) × C.reads self.old.clock now read
             × Makes (meaning_of K.eq L.tells P.says W.weighs C.reads X.created X.read X.updated)
             (Just (own_run now) (reply.Run result)) self.old.cache.engine read self.new.cache.engine self.new.clock }
-        ensures members { AreAllMembers self.new.cache.engine.state }
+        ensures members { HasOnlyMembers self.new.cache.engine.state }
         ensures exact { IsExact self.new.cache.engine.state }
         ensures within { IsWithin self.new.cache.engine.state.capacity self.new.cache.engine.state.access }
         ensures counted { self.new.cache.stats ≡ self.old.cache.stats }

@@ -13,7 +13,7 @@ pub trait Monotonic {
     ghost use Rattle.std.specs.Prelude.{ℕ, Option, option_map};
     ghost use Rattle.std.specs.Duration.{as_nanos};
 
-    /// It may tell so many nanoseconds, or nothing where it cannot be read.
+    /// It may tell so many nanoseconds, or nothing if it cannot be read.
     ghost tells: { Self → Option ℕ → Type 0 };
 
     /// The time since it started, if it can be read.
@@ -29,7 +29,7 @@ impl<R: std::time::Clock> Monotonic for R {
     }
 }
 
-/// The system's monotonic time, in nanoseconds since its source started, saturating. Its moments never go back: where
+/// The system's monotonic time, in nanoseconds since its source started, saturating. Its moments never go back: if
 /// the source does, or cannot be read, the last moment is given again.
 #[derive(Drop)]
 pub struct SystemClock<R> {

@@ -7,7 +7,7 @@ ghost use Rattle.moka_parts.specs.declared.policy.Instant.{Instant};
 ghost use Rattle.moka_engine.specs.Snapshots.{scene_of};
 ghost use Rattle.moka_engine.specs.declared.base_cache.restores.Restored.{Restored};
 ghost use Rattle.moka_parts.specs.Hashing.{key_hash};
-ghost use Rattle.moka_drive.specs.Saved.{AddsOnly, AreAllMembers, AreSaved, AreThere, IsRestored, PutsBack, PutsManyBack, TakesOnlyExpired};
+ghost use Rattle.moka_drive.specs.Saved.{AddsOnly, HasOnlyMembers, AreSaved, AreThere, IsRestored, PutsBack, PutsManyBack, TakesOnlyExpired};
 ghost use Rattle.moka_drive.specs.Synchronous.{Just, Makes, meaning_of, own_run};
 ghost use Rattle.moka_drive.specs.Unsent.{HidesNoMore};
 
@@ -46,7 +46,7 @@ impl<
             (scene_of self.new.cache.engine.state now.0) self.new.cache.engine.state.access items.items)
             × ((more : Bool) × Makes (meaning_of K.eq L.tells P.says W.weighs C.reads X.created X.read X.updated)
             (Just (own_run now) (reply.Run more)) self.old.cache.engine read self.new.cache.engine self.new.clock) }
-        ensures members { AreAllMembers self.new.cache.engine.state }
+        ensures members { HasOnlyMembers self.new.cache.engine.state }
         ensures counted { self.new.cache.stats ≡ self.old.cache.stats }
     {
         let now = self.clock.now();

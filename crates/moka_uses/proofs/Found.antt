@@ -8,15 +8,15 @@ use Rattle.moka_engine.specs.parts.Entry.{Entry}
 use Rattle.moka_engine.specs.parts.Ticket.{Ticket}
 use Rattle.moka_engine.specs.parts.OutOfMemory.{OutOfMemory}
 use Rattle.moka_engine.specs.parts.Instant.{Instant}
-use Rattle.moka_engine.specs.parts.Operation.{Operation}
 use Rattle.moka_engine.specs.parts.Record.{Record}
-use Rattle.moka_engine.specs.Calls.{InsertsAt, InsertStep, new_record, SendsAt, SendStep, GetsAt, GetStep, Unchanged}
+use Rattle.moka_engine.specs.Calls.{InsertsAt, InsertStep, new_record, SendStep, GetsAt, GetStep, Unchanged}
 use Rattle.moka_engine.specs.Copies.{HandsOut, IsCopiedAnswer, IsCopy, IsEntryCopy}
 use Rattle.moka_engine.specs.Maintenance.{Terms, Course}
 use Rattle.moka_engine.specs.Records.{Notice, Records, record_of_key}
 use Rattle.moka_engine.specs.State.{State, Settings, Events, new_state, is_disabled}
 use Rattle.moka_engine.proofs.Lookup.{record_of_key_empty, present_key}
 use Rattle.moka_engine.proofs.Maps.{get_inserted, get_past_insert, nothing_at, same_or_apart}
+use Rattle.moka_uses.proofs.Sent.{sends}
 
 -- where a clone is seen as what was cloned is, the value that is handed out is seen as the one that was put
 pub seen_alike : {K V B : Type 0} (seen : V → B) (value : V) (found : Option (Entry K V)) → IsCopy (λ x y. seen y ≡ seen x) (Some value) (option_map (λ x. x.value) found) → option_map (λ x. seen x.value) found ≡ Some (seen value)
@@ -32,21 +32,6 @@ one_record {K} {V} eq laws key n r same = present_key eq one key laws (λ a b p 
 
     only : (a : ℕ) (p : Record K V) → get one a ≡ Some p → a ≡ n
     only a p at = elim (same_or_apart a n) [ inl e ↦ e | inr apart ↦ absurd (nothing_at a p (sym (get_past_insert empty n r a apart) ∙ at)) ]
-
--- a send changes neither records, nor predicates, nor what hides them
-pub record HidesAlike {K V X P W : Type 0} (s t : State K V X P W) : Type 0 where
-  pub records : t.records ≡ s.records
-  pub predicates : t.predicates ≡ s.predicates
-  pub bound : t.invalid_before ≡ s.invalid_before
-  pub capacity : t.capacity ≡ s.capacity
-  pub settings : t.settings ≡ s.settings
-
-sent_hides_alike : {K V X P W : Type 0} (s : State K V X P W) (ticket : ℕ) (u : Unit {0}) (t : State K V X P W) → SendStep s ticket (Ok u) t → HidesAlike s t
-sent_hides_alike {K} {V} {X} {P} {W} s ticket u t step = go (get s.outstanding ticket) step
-  where
-    go : (o : Option Operation) → SendsAt s ticket o (Ok u) t → HidesAlike s t
-    go (Some o) h = subst (HidesAlike s) (sym h.1) (record { records = refl; predicates = refl; bound = refl; capacity = refl; settings = refl })
-    go None h = absurd h
 
 module _ {K V X P W : Type 0} (eq : K → K → Bool) (says : P → K → V → Bool → Type 0) (read : X → K → V → ℕ → Option ℕ → ℕ → Option ℕ) (Runs : State K V X P W → Terms → Course → List (Notice K V) → State K V X P W → Type 0) where
   -- the record is the key's, and nothing hides it
@@ -81,16 +66,16 @@ module _ {K V X P W : Type 0} (eq : K → K → Bool) (says : P → K → V → 
         → IsCopy is_value_clone (Some value) (option_map (λ x. x.value) found)
     finds_what_was_put is_key_clone is_value_clone laws settings capacity first_ticket old is live idle expiry enabled key hash value now a e s put ticket u t sent asked alike_key get_hash need_key at found f v got_out =
         let step : InsertsAt created updated weighs new None key hash value now (Ok a) e s = subst (λ o. InsertsAt created updated weighs new o key hash value now (Ok a) e s) (record_of_key_empty eq key) (subst (λ x. InsertStep created updated weighs eq x key hash value now (Ok a) e s) is put) in
-        let alike = sent_hides_alike s ticket u t sent in
+        let send = sends s ticket u t sent in
         let r = new_record created updated new key hash value now step.0 in
         let shown : IsOpen t asked r = record {
-          here = ap (λ m. record_of_key eq m asked) (alike.records ∙ ap (λ x. x.records) step.5) ∙ one_record eq laws asked 1 r alike_key;
-          unhidden = alike.predicates ∙ ap (λ x. x.predicates) step.5;
-          valid = alike.bound ∙ ap (λ x. x.invalid_before) step.5;
-          live = ap (λ x. x.time_to_live) (alike.settings ∙ ap (λ x. x.settings) step.5) ∙ live;
-          idle = ap (λ x. x.time_to_idle) (alike.settings ∙ ap (λ x. x.settings) step.5) ∙ idle;
+          here = ap (λ m. record_of_key eq m asked) (send.records ∙ ap (λ x. x.records) step.5) ∙ one_record eq laws asked 1 r alike_key;
+          unhidden = send.alike.predicates ∙ ap (λ x. x.predicates) step.5;
+          valid = send.alike.bound ∙ ap (λ x. x.invalid_before) step.5;
+          live = ap (λ x. x.time_to_live) (send.alike.settings ∙ ap (λ x. x.settings) step.5) ∙ live;
+          idle = ap (λ x. x.time_to_idle) (send.alike.settings ∙ ap (λ x. x.settings) step.5) ∙ idle;
           unexpiring = rw expiry refl;
-          enabled = ap is_disabled (alike.capacity ∙ ap (λ x. x.capacity) step.5) ∙ enabled;
+          enabled = ap is_disabled (send.alike.capacity ∙ ap (λ x. x.capacity) step.5) ∙ enabled;
         } in
         handed r shown got_out.0 got_out.1 got_out.2
       where

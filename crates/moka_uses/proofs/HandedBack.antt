@@ -9,12 +9,7 @@ use Rattle.moka_engine.specs.State.{State, Events}
 use Rattle.moka_drive.proofs.Waiting.{insert_hands_back}
 
 module _ {K V X P W : Type 0} (created : X → K → V → ℕ → Option ℕ) (updated : X → K → V → ℕ → Option ℕ → Option ℕ) (weighs : W → K → V → ℕ → Type 0) (eq : K → K → Bool) (s : State K V X P W) (key : K) (hash : ℕ) (value : V) (now : Instant) (e : Events K V) (t : State K V X P W) where
-  -- key and value come back
-  pub comes_back : (a : Result (Ticket × Instant) (InsertRefused K V)) → InsertStep created updated weighs eq s key hash value now a e t → IfErr a (λ refused. (refused.key ≡ key) × (refused.value ≡ value))
-  comes_back (Ok a) step = tt
-  comes_back (Err refused) step = let back = insert_hands_back created updated weighs eq s key hash value now refused e t step in (back.key_back, back.value_back)
-
-  -- and nothing has changed
-  pub stays_as_it_was : (a : Result (Ticket × Instant) (InsertRefused K V)) → InsertStep created updated weighs eq s key hash value now a e t → OnErr a (t ≡ s)
-  stays_as_it_was (Ok a) step = tt
-  stays_as_it_was (Err refused) step = (insert_hands_back created updated weighs eq s key hash value now refused e t step).unchanged.0
+  -- key and value come back, and nothing has changed
+  pub handed_back : (a : Result (Ticket × Instant) (InsertRefused K V)) → InsertStep created updated weighs eq s key hash value now a e t → IfErr a (λ refused. (refused.key ≡ key) × (refused.value ≡ value)) × OnErr a (t ≡ s)
+  handed_back (Ok a) step = (tt, tt)
+  handed_back (Err refused) step = let back = insert_hands_back created updated weighs eq s key hash value now refused e t step in ((back.key_back, back.value_back), back.unchanged.0)

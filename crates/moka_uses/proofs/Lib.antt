@@ -1,5 +1,5 @@
-pub mod Found
 pub mod Sent
+pub mod Found
 pub mod SentAfterAll
 pub mod HandedBack
 pub mod Both

@@ -1,7 +1,8 @@
 -- What inserts and sends do to the operations that wait, and what they keep.
 use Rattle.std.proofs.Math.Nat.{min-le_left}
 use Rattle.std.proofs.Common.{◌≡◌, refl, ℕ, Bool, false, ◌≤◌, List, Option, Some, None, Ok, ap, sym, subst, ◌∙◌, inl, inr, ◌&&◌, arith}
-use Rattle.std.specs.FinMap.{get, insert, remove, empty, get-empty}
+use Rattle.std.specs.Cmp.{nat_cmp_total}
+use Rattle.std.specs.FinMap.{get, insert, remove, empty, get-empty, same_map, nat_cmp-IsAntisymmetric}
 use Rattle.std.specs.Ordering.{nat_cmp}
 use Rattle.std.proofs.Math.Bool.{and-false}
 use Rattle.moka_engine.specs.parts.Ticket.{Ticket}
@@ -19,11 +20,11 @@ use Rattle.moka_engine.specs.Time.{greatest}
 use Rattle.moka_engine.proofs.Maps.{get_removed, get_past_insert, get_past_remove, same_or_apart}
 use Rattle.moka_engine.proofs.Values.{empty_map}
 
--- the operations without one that came last
-pub nothing_left : (m : Operations) → m ≡ empty → (a : ℕ) (o : Operation) → remove (insert m a o) a ≡ empty
-nothing_left m none a o = empty_map (remove (insert m a o) a) (λ n. elim (same_or_apart n a) [
-  | inl e ↦ ap (get (remove (insert m a o) a)) e ∙ get_removed (insert m a o) a
-  | inr apart ↦ get_past_remove (insert m a o) a n apart ∙ get_past_insert m a o n apart ∙ ap (λ m. get m n) none ∙ get-empty nat_cmp n
+-- what is put under a new ticket and taken out again
+pub back_again : (m : Operations) (ticket : ℕ) (o : Operation) → get m ticket ≡ None → remove (insert m ticket o) ticket ≡ m
+back_again m ticket o absent = same_map nat_cmp_total nat_cmp-IsAntisymmetric (remove (insert m ticket o) ticket) m (λ n. elim (same_or_apart n ticket) [
+  | inl e ↦ ap (get (remove (insert m ticket o) ticket)) e ∙ get_removed (insert m ticket o) ticket ∙ sym absent ∙ sym (ap (get m) e)
+  | inr apart ↦ get_past_remove (insert m ticket o) ticket n apart ∙ get_past_insert m ticket o n apart
 ])
 
 -- the operations without two, of which the first goes last
@@ -44,9 +45,10 @@ module _ {K V X P W : Type 0} where
     pub capacity : t.capacity ≡ s.capacity
     pub settings : t.settings ≡ s.settings
 
-  -- one more operation waits under the ticket
+  -- one more operation waits under the next ticket
   pub record HandsOut (s : State K V X P W) (ticket : ℕ) (t : State K V X P W) : Type 0 where
     pub alike : IsAlike s t
+    pub next : ticket ≡ s.next_ticket
     pub operation : Operation
     pub outstanding : t.outstanding ≡ insert s.outstanding ticket operation
 
@@ -71,8 +73,8 @@ module _ {K V X P W : Type 0} where
   hands_out created updated weighs eq s key hash value now a e t step = go (record_of_key eq s.records key) step
     where
       go : (o : Option (Record K V)) → InsertsAt created updated weighs s o key hash value now (Ok a) e t → HandsOut s a.0.0 t
-      go None h = subst (λ n. HandsOut s n t) (sym h.3) (subst (HandsOut s s.next_ticket) (sym h.5) (record { alike = record { predicates = refl; bound = refl; capacity = refl; settings = refl }; operation = _; outstanding = refl }))
-      go (Some r) h = subst (λ n. HandsOut s n t) (sym h.3) (subst (HandsOut s s.next_ticket) (sym h.5) (record { alike = record { predicates = refl; bound = refl; capacity = refl; settings = refl }; operation = _; outstanding = refl }))
+      go None h = subst (λ n. HandsOut s n t) (sym h.3) (subst (HandsOut s s.next_ticket) (sym h.5) (record { alike = record { predicates = refl; bound = refl; capacity = refl; settings = refl }; next = refl; operation = _; outstanding = refl }))
+      go (Some r) h = subst (λ n. HandsOut s n t) (sym h.3) (subst (HandsOut s s.next_ticket) (sym h.5) (record { alike = record { predicates = refl; bound = refl; capacity = refl; settings = refl }; next = refl; operation = _; outstanding = refl }))
 
   -- a whole run with all sent reports a weight within the capacity
   pub weight_within : (says : P → K → V → Bool → Type 0) (read : X → K → V → ℕ → Option ℕ → ℕ → Option ℕ) (before after : List ℕ) (s : State K V X P W) (terms : Terms) (answer : Bool) (e : Events K V) (t : State K V X P W) → RunStep (ListedRun says read before after) s terms answer e t
@@ -88,7 +90,7 @@ module _ {K V X P W : Type 0} where
 
   -- an insert whose operation is sent at once leaves no more waiting
   pub put_and_sent : (s t v : State K V X P W) (ticket : ℕ) → HandsOut s ticket t → Sends t ticket v → s.outstanding ≡ empty → v.outstanding ≡ empty
-  put_and_sent s t v ticket put sent none = sent.outstanding ∙ (ap (λ m. remove m ticket) put.outstanding ∙ nothing_left s.outstanding none ticket put.operation)
+  put_and_sent s t v ticket put sent none = sent.outstanding ∙ ap (λ m. remove m ticket) put.outstanding ∙ back_again s.outstanding ticket put.operation (ap (λ m. get m ticket) none ∙ get-empty nat_cmp ticket) ∙ none
 
   -- two inserts whose operations are sent in the other order leave no more waiting
   pub sent_in_other_order : (s t v x y : State K V X P W) (a b : ℕ) → HandsOut s a t → HandsOut t b v → Sends v b x → Sends x a y → s.outstanding ≡ empty → y.outstanding ≡ empty

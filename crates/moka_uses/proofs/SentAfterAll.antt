@@ -1,34 +1,22 @@
 -- A send that is made once more where the queue is full, after a run that empties it.
-use Rattle.std.proofs.Common.{◌≡◌, refl, ℕ, ◌<◌, ◌≤◌, Bool, false, List, [], length, Option, Some, None, Result, Ok, Err, ap, sym, subst, ◌∙◌, inl, inr, arith}
+use Rattle.std.proofs.Common.{◌≡◌, refl, ℕ, ◌<◌, ◌≤◌, Bool, false, List, [], length, Option, Some, None, Result, Ok, Err, ap, sym, subst, ◌∙◌, arith}
 use Rattle.std.specs.Prelude.{IfErr, IfOk, OnErr}
-use Rattle.std.specs.Cmp.{nat_cmp_total}
-use Rattle.std.specs.FinMap.{get, insert, remove, same_map, nat_cmp-IsAntisymmetric}
+use Rattle.std.specs.FinMap.{get, remove}
 use Rattle.std.proofs.lemmas.Option.{none-some}
-use Rattle.moka_engine.specs.parts.Instant.{Instant}
 use Rattle.moka_engine.specs.parts.Operation.{Operation}
-use Rattle.moka_engine.specs.parts.Record.{Record}
-use Rattle.moka_engine.specs.parts.Ticket.{Ticket}
 use Rattle.moka_engine.specs.parts.SendError.{SendError}
 use Rattle.moka_engine.specs.parts.SendError.TheVariants.{UnknownTicket, QueueFull}
-use Rattle.moka_engine.specs.Calls.{InsertsAt, InsertStep, RunStep, SendsAt, SendStep}
+use Rattle.moka_engine.specs.Calls.{RunStep, SendsAt, SendStep}
 use Rattle.moka_engine.specs.Listed.{ListedRun}
 use Rattle.moka_engine.specs.Maintenance.{Terms}
-use Rattle.moka_engine.specs.Records.{Operations, record_of_key}
 use Rattle.moka_engine.specs.Settling.{IsValid}
 use Rattle.moka_engine.specs.State.{State, Events, is_disabled}
-use Rattle.moka_engine.proofs.Maps.{get_inserted, get_past_insert, get_past_remove, get_removed, same_or_apart}
+use Rattle.moka_engine.proofs.Maps.{get_inserted}
 use Rattle.moka_drive.specs.Unsent.{AreOlder, HoldsUnsent, IsHeld}
 use Rattle.moka_drive.proofs.Posting.{listed_run_alike, listed_run_empties, listed_run_holds}
 use Rattle.moka_drive.proofs.Stays.{send_holds}
 use Rattle.moka_uses.specs.Refused.{IsSent}
-use Rattle.moka_uses.proofs.Sent.{HandsOut}
-
--- what is put under a new ticket and taken out again
-pub back_again : (m : Operations) (ticket : ℕ) (o : Operation) → get m ticket ≡ None → remove (insert m ticket o) ticket ≡ m
-back_again m ticket o absent = same_map nat_cmp_total nat_cmp-IsAntisymmetric (remove (insert m ticket o) ticket) m (λ n. elim (same_or_apart n ticket) [
-  | inl e ↦ ap (get (remove (insert m ticket o) ticket)) e ∙ get_removed (insert m ticket o) ticket ∙ sym absent ∙ sym (ap (get m) e)
-  | inr apart ↦ get_past_remove (insert m ticket o) ticket n apart ∙ get_past_insert m ticket o n apart
-])
+use Rattle.moka_uses.proofs.Sent.{HandsOut, back_again}
 
 module _ {K V X P W : Type 0} where
   -- what a send comes to that is not refused for want of room
@@ -79,16 +67,12 @@ module _ {K V X P W : Type 0} where
             sent (Err UnknownTicket) h = absurd h
 
   -- an insert hands out a new ticket
-  pub new_ticket : (created : X → K → V → ℕ → Option ℕ) (updated : X → K → V → ℕ → Option ℕ → Option ℕ) (weighs : W → K → V → ℕ → Type 0) (eq : K → K → Bool) (s : State K V X P W) (key : K) (hash : ℕ) (value : V) (now : Instant) (a : Ticket × Instant) (e : Events K V) (t : State K V X P W) → IsValid eq s → InsertStep created updated weighs eq s key hash value now (Ok a) e t → get s.outstanding a.0.0 ≡ None
-  new_ticket created updated weighs eq s key hash value now a e t valid step = none (get s.outstanding a.0.0) refl
+  pub new_ticket : (eq : K → K → Bool) (s t : State K V X P W) (ticket : ℕ) → IsValid eq s → HandsOut s ticket t → get s.outstanding ticket ≡ None
+  new_ticket eq s t ticket valid put = none (get s.outstanding ticket) refl
     where
-      is : (o : Option (Record K V)) → InsertsAt created updated weighs s o key hash value now (Ok a) e t → a.0.0 ≡ s.next_ticket
-      is None h = h.3
-      is (Some r) h = h.3
-
-      none : (o : Option Operation) → get s.outstanding a.0.0 ≡ o → o ≡ None
+      none : (o : Option Operation) → get s.outstanding ticket ≡ o → o ≡ None
       none None there = refl
-      none (Some o) there = (let below : a.0.0 < s.next_ticket = valid.numbered.ticketed.handed a.0.0 o there in let same = is (record_of_key eq s.records key) step in absurd (omega (arith, below, same)))
+      none (Some o) there = (let below : ticket < s.next_ticket = valid.numbered.ticketed.handed ticket o there in let next = put.next in absurd (omega (arith, below, next)))
 
   -- whose operation is sent then
   pub sent_then : (s t u : State K V X P W) (ticket : ℕ) → HandsOut s ticket t → get s.outstanding ticket ≡ None → (a : Result (Unit {0}) SendError) → IfErr a (λ error. (error ≡ UnknownTicket) × (get t.outstanding ticket ≡ None)) → IfOk a (λ _. IsSent ticket t u) → (a ≡ Ok tt) × (u.outstanding ≡ s.outstanding)

@@ -23,11 +23,6 @@ abbrev pub meaning : {X L W C I : Type 0} → (C → Instant → C → Type 0) �
 meaning reads gives = simple_meaning (λ a b. a == b) is_of reads gives
 
 module _ {X W : Type 0} (s : State ℕ Session X OfUser W) (number : ℕ) where
-  -- the number has this session
-  abbrev pub IsSession : Session → Type 0
-  IsSession session = (r : Record ℕ Session) × (record_of_key (λ a b. a == b) s.records number ≡ Some r)
-      × (session ≡ r.value)
-
   -- the number has a session of the user, which was begun at that moment or before
   abbrev pub IsOfUser : ℕ → ℕ → Type 0
   IsOfUser user now = (r : Record ℕ Session) × (record_of_key (λ a b. a == b) s.records number ≡ Some r)

@@ -1,16 +1,18 @@
 -- What a caller's function made of its cache: these calls of the reference cache, and no others.
-use Rattle.std.specs.Prelude.{◌≡◌, ℕ, Bool, false, List, Option, None, Result, option_map, ⊤}
+use Rattle.std.specs.Prelude.{◌≡◌, ℕ, Bool, false, List, Option, Some, None, Result, option_map, ⊤}
 use Rattle.moka_engine.specs.parts.Call.{Call}
 use Rattle.moka_engine.specs.parts.InsertRefused.{InsertRefused}
 use Rattle.moka_engine.specs.parts.Instant.{Instant}
 use Rattle.moka_engine.specs.parts.OutOfMemory.{OutOfMemory}
 use Rattle.moka_engine.specs.parts.PredicateRefused.{PredicateRefused}
+use Rattle.moka_engine.specs.parts.Record.{Record}
 use Rattle.moka_engine.specs.parts.Reply.{Reply}
 use Rattle.moka_engine.specs.parts.Uuid.{Uuid}
 use Rattle.moka_engine.specs.Calls.{InvalidateStep, only_ids}
 use Rattle.moka_engine.specs.Config.{Config, new_engine}
 use Rattle.moka_engine.specs.Listed.{ListedRun}
 use Rattle.moka_engine.specs.Makes as engine
+use Rattle.moka_engine.specs.Records.{record_of_key}
 use Rattle.moka_engine.specs.Runs.{Engine, Befalls, CallStep}
 use Rattle.moka_engine.specs.State.{Meaning, State, Events}
 use Rattle.moka_engine.specs.Surroundings.{Leads}
@@ -40,6 +42,10 @@ plain_meaning eq reads = simple_meaning eq (λ _ _ _ answer. answer ≡ false) r
 -- the same of an engine, whose clock and source of identifiers are the caller's
 abbrev pub engine_meaning : {K V X L P W : Type 0} → (K → K → Bool) → Meaning K V X L P W (Unit {0}) (Unit {0})
 engine_meaning eq = plain_meaning eq (λ _ _ _. ⊥)
+
+-- the key has this value
+abbrev pub HasValue : {K V X P W : Type 0} → (K → K → Bool) → State K V X P W → K → V → Type 0
+HasValue {K} {V} eq s key value = (r : Record K V) × (record_of_key eq s.records key ≡ Some r) × (value ≡ r.value)
 
 -- ---- calls of the synchronous cache, at a moment
 

@@ -1,19 +1,12 @@
 -- A cache in front of a source.
-use Rattle.std.specs.Prelude.{◌≡◌, ℕ, Bool, None, Result, Ok}
+use Rattle.std.specs.Prelude.{◌≡◌, ℕ, Bool, Result}
 use Rattle.moka_engine.specs.parts.Instant.{Instant}
-use Rattle.moka_engine.specs.Runs.{Engine}
 use Rattle.moka_engine.specs.State.{Meaning}
 use Rattle.moka_drive.specs.declared.error.GetWithRefused.{GetWithRefused}
 use Rattle.moka_drive.specs.declared.removals.CountingListener.{CountingListener}
 use Rattle.moka_drive.specs.Removed.{counting}
-use Rattle.moka_drive.specs.Synchronous.{Synchronous, GetsValue, GetsWith, Makes}
+use Rattle.moka_drive.specs.Synchronous.{Synchronous, GetsWith}
 use Rattle.moka_uses.specs.Made.{plain_meaning}
-
--- the cache made a look-up of the key that found nothing, and no other call
-abbrev pub FindsNothing : {K V S X L P W C : Type 0} → Meaning K V X L P W C (Unit {0}) → K → Instant →
-    Engine K V S X L P W → C → Engine K V S X L P W → C → Type 0
-FindsNothing m key now old clock new clock_after = (hash : ℕ)
-    × Makes m (GetsValue key hash now (Ok None)) old clock new clock_after
 
 -- what the parts of such a cache mean whose listener counts, and tells nobody else
 abbrev pub counting_meaning : {K V X L P W C : Type 0} → (K → K → Bool) → (C → Instant → C → Type 0) →

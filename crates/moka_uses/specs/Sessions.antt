@@ -13,11 +13,6 @@ pub record OnlyIdles {K V X P W : Type 0} (s : State K V X P W) (r : Record K V)
   pub idles : s.settings.time_to_idle ≡ Some idle
   pub unexpiring : r.expires ≡ None
 
--- the user has a session with this token
-abbrev pub IsTokenOf : {V X P W : Type 0} → State ℕ V X P W → ℕ → V → Type 0
-IsTokenOf {V} s user token = (r : Record ℕ V) × (record_of_key (λ a b. a == b) s.records user ≡ Some r)
-    × (token ≡ r.value)
-
 -- whether a session is found at the moment tells whether its last use lies less than the idle time before
 abbrev pub IsFoundWithin : {V X P W : Type 0} → State ℕ V X P W → ℕ → ℕ → Bool → Type 0
 IsFoundWithin {V} s user now found = (r : Record ℕ V) (idle : ℕ) → record_of_key (λ a b. a == b) s.records user ≡ Some r

@@ -16,7 +16,7 @@ use Rattle.moka_drive.specs.declared.error.GetWithRefused.TheVariants as get_wit
 use Rattle.moka_drive.specs.Computing.{InTurn}
 use Rattle.moka_drive.specs.Counters.{one_more}
 use Rattle.moka_drive.specs.Synchronous.{Makes, GetsValue, InsertsMade, RemovesEntry}
-use Rattle.moka_uses.specs.Made.{plain_meaning}
+use Rattle.moka_uses.specs.Made.{LooksUp, plain_meaning}
 
 module _ {X P W : Type 0} (s : State ℕ ℕ X P W) where
   -- the record's value, unless a moment hides it
@@ -47,11 +47,6 @@ meaning reads = plain_meaning (λ a b. a == b) reads
 
 module _ {S X L P W C : Type 0} (m : Meaning ℕ ℕ X L P W C (Unit {0})) (page : ℕ) (now : Instant)
     (old : Engine ℕ ℕ S X L P W) (clock : C) (new : Engine ℕ ℕ S X L P W) (clock_after : C) where
-  -- the cache made a look-up of the page, and no other call
-  abbrev pub LooksUp : Type 0
-  LooksUp = (hash : ℕ)
-      × Makes m (GetsValue page hash now (Ok (count_at old.state page now.0))) old clock new clock_after
-
   -- the cache made a look-up of the page, and put this count
   abbrev pub PutsCount : ℕ → Type 0
   PutsCount count = (hash : ℕ)
@@ -65,12 +60,9 @@ module _ {S X L P W C : Type 0} (m : Meaning ℕ ℕ X L P W C (Unit {0})) (page
       × Makes m (InTurn (GetsValue page hash now (Ok (Some count)))
       (RemovesEntry page hash now out)) old clock new clock_after
 
-module _ {S X L P W C : Type 0} (m : Meaning ℕ ℕ X L P W C (Unit {0})) (page : ℕ) (now : Instant)
-    (old : Engine ℕ ℕ S X L P W) (clock : C) (new : Engine ℕ ℕ S X L P W) (clock_after : C) where
   -- the look-up of the page was refused
   abbrev pub RefusesLookup : Type 0
-  RefusesLookup = (hash : ℕ) × (refused : OutOfMemory)
-      × Makes m (GetsValue page hash now (Err refused)) old clock new clock_after
+  RefusesLookup = (refused : OutOfMemory) × LooksUp m page now old clock new clock_after (Err refused)
 
   -- the look-up of the page was refused; or it was answered, and the insert of the next count refused
   abbrev pub RefusesCount : GetWithRefused ℕ ℕ → Type 0

@@ -11,7 +11,7 @@ use moka_engine::{Engine, FixedClock, Instant, NoExpiry, NoPredicate, NoWeigher,
 /// value is the same (`gets_what_is_contained`).
 ///
 /// # Errors
-/// `OutOfMemory` where memory for a clone of the value is refused; numbers take none. The cache is as it was.
+/// `OutOfMemory` if memory for a clone of the value is refused; numbers take none. The cache is as it was.
 pub fn ask_twice(
     cache: &mut Engine<u64, u64>,
     key: u64,

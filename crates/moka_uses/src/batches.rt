@@ -72,7 +72,7 @@ pub fn ask<
 /// Takes the rows of these keys out at the moment `now`.
 ///
 /// # Errors
-/// As `Cache::invalidate_many`: how many come before the key whose listener was not told, and its value.
+/// As `Cache::invalidate_many`: how many come before the key whose listener was not notified, and its value.
 pub fn drop_all<
     K: Eq + Hash + Clone + Drop,
     V: Clone + Drop,

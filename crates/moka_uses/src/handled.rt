@@ -14,7 +14,8 @@ use moka_engine::{
     NoListener, OutOfMemory, PredicateFn, PredicateId,
 };
 
-/// Puts a value under a key. If memory is refused, the insert is made once more, with what came back of the first.
+/// Puts a value under a key. If memory is refused, the insert is made once more, with what came back of the first. A
+/// cache of capacity 0 drops both.
 ///
 /// # Errors
 /// The insert that was refused, with key and value; the cache is as it was.
@@ -25,8 +26,8 @@ pub fn put<C: Clock>(
     now: Instant,
     clock: &mut C,
 ) -> Result<(), InsertRefused<u64, u64>>
-    requires { is_disabled cache.old.engine.state.capacity ≡ false }
-    ensures put { IfOk result (λ _. IsThere (λ a b. a == b) cache.new.engine.state key value now) }
+    ensures put { IfOk result (λ _. is_disabled cache.old.engine.state.capacity ≡ false
+        → IsThere (λ a b. a == b) cache.new.engine.state key value now) }
     ensures back { IfErr result (λ refused. (refused.key ≡ key) × (refused.value ≡ value)) }
     ensures unchanged { OnErr result (cache.new.engine.state ≡ cache.old.engine.state) }
     ensures made { InsertsOrRetries (plain_meaning (λ a b. a == b) C.reads) key value now cache.old.engine clock.old
@@ -43,7 +44,7 @@ pub fn put<C: Clock>(
     }
 }
 
-/// Takes a value out, whether the listener could be told of it or not. The key is not there then.
+/// Takes a value out, whether the listener could be notified of it or not. The key is not there then.
 pub fn take<V: Clone + Drop, L: Listener<u64, V>, C: Clock>(
     cache: &mut Cache<u64, V, NoExpiry, L>,
     key: u64,
@@ -66,7 +67,7 @@ pub fn take<V: Clone + Drop, L: Listener<u64, V>, C: Clock>(
 /// handed out all the same. If the look-up is refused, it is made once more, with the key that came back.
 ///
 /// # Errors
-/// `OutOfMemory` where the second look-up is refused too.
+/// `OutOfMemory` if the second look-up is refused too.
 pub fn value_or_made<V: Clone + Drop, F: FnOnce() -> V, C: Clock>(
     cache: &mut Cache<u64, V>,
     key: u64,

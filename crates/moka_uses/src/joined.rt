@@ -10,8 +10,8 @@ use moka_timed::TimedCache;
 use std::hash::Hash;
 
 /// Puts an entry in, and looks a key up. Each call reads the clock first, so each is taken to one that may tell any
-/// moment, and joined there (`made_anytime`): both are one run of the reference cache that keeps all that is promised of
-/// a list of calls.
+/// moment, and joined there (`made_anytime`): both are one run of the reference cache that keeps all that is promised
+/// of a list of calls.
 ///
 /// # Errors
 /// As `TimedCache::insert` the first, and as `TimedCache::get` the second, which is made in any case.

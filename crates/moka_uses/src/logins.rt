@@ -6,8 +6,8 @@ ghost use Rattle.moka_engine.specs.Calls.{ContainsStep};
 ghost use Rattle.moka_engine.specs.Config.{default_config};
 ghost use Rattle.moka_engine.specs.State.{is_disabled};
 ghost use Rattle.moka_drive.specs.Unsent.{IsThere};
-ghost use Rattle.moka_uses.specs.Logins.{LogsOut, is_of, IsSession, meaning};
-ghost use Rattle.moka_uses.specs.Made.{Inserts, IsNew, LooksUp, Registers};
+ghost use Rattle.moka_uses.specs.Logins.{LogsOut, is_of, meaning};
+ghost use Rattle.moka_uses.specs.Made.{HasValue, Inserts, IsNew, LooksUp, Registers};
 
 use moka_engine::laws::stays_hidden;
 use moka_engine::{
@@ -75,9 +75,9 @@ pub fn log_in<C: Clock>(
     number: u64,
     session: Session,
 ) -> Result<(), InsertRefused<u64, Session>>
-    requires { is_disabled logins.old.cache.engine.state.capacity ≡ false }
     ensures begun { (now : Instant) × (read : C) × C.reads logins.old.clock now read
-        × IfOk result (λ _. IsThere (λ a b. a == b) logins.new.cache.engine.state number session now)
+        × IfOk result (λ _. is_disabled logins.old.cache.engine.state.capacity ≡ false
+        → IsThere (λ a b. a == b) logins.new.cache.engine.state number session now)
         × Inserts (meaning C.reads (λ _ _ _. ⊥)) number now logins.old.cache.engine read
         logins.new.cache.engine logins.new.clock session result }
     ensures back { IfErr result (λ refused. (refused.key ≡ number) × (refused.value ≡ session)) }
@@ -96,7 +96,8 @@ pub fn find<C: Clock>(logins: &mut Logins<C>, number: u64) -> Result<Option<Sess
         (λ found. ContainsStep is_of (λ a b. a == b) logins.old.cache.engine.state number now.0 (is_some found))
         × LooksUp (meaning C.reads (λ _ _ _. ⊥)) number now logins.old.cache.engine read
         logins.new.cache.engine logins.new.clock result }
-    ensures kept { IfOk result (λ found. IfSome found (IsSession logins.old.cache.engine.state number)) }
+    ensures kept { IfOk result (λ found.
+        IfSome found (HasValue (λ a b. a == b) logins.old.cache.engine.state number)) }
     ensures unchanged { OnErr result (logins.new.cache.engine.state ≡ logins.old.cache.engine.state) }
 {
     logins.get(&number)

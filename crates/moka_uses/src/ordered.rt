@@ -17,7 +17,7 @@ use moka_engine::{
     Ticket,
 };
 
-/// Puts a value under a key, and hands out a ticket. Where no record was written later, a cache in the order of writing
+/// Puts a value under a key, and hands out a ticket. If no record was written later, a cache in the order of writing
 /// stays so (`calls_keep_order`).
 ///
 /// # Errors

@@ -1,9 +1,9 @@
 //! A read-through cache over a source that can fail.
-ghost use Rattle.std.specs.Prelude.{ℕ, false, Ok, Err, IfOk, IfErr};
+ghost use Rattle.std.specs.Prelude.{ℕ, false, None, Ok, Err, IfOk, IfErr};
 ghost use Rattle.moka_engine.specs.Calls.{ContainsStep};
 ghost use Rattle.moka_drive.specs.Given.{ComesBack, IsHandedOut};
 ghost use Rattle.moka_drive.specs.Synchronous.{GetsWithIfNoError, meaning_of};
-ghost use Rattle.moka_uses.specs.ReadThrough.{FindsNothing};
+ghost use Rattle.moka_uses.specs.Made.{LooksUp};
 
 use moka_drive::{Cache, GetWithRefused};
 use moka_engine::{Clock, Expiry, Instant, Listener, PredicateFn, Weigher};
@@ -39,8 +39,8 @@ pub fn look_up<
     ensures given { IfOk result (λ answer. IfOk answer
         (IsHandedOut K.eq P.says V.is_clone cache.old.engine.state key now.0 (λ value. F.post ask (Ok value)))) }
     ensures failed { IfOk result (λ answer. IfErr answer (λ error. F.post ask (Err error)
-        × FindsNothing (meaning_of K.eq L.tells P.says W.weighs C.reads X.created X.read X.updated) key now
-        cache.old.engine clock.old cache.new.engine clock.new)) }
+        × LooksUp (meaning_of K.eq L.tells P.says W.weighs C.reads X.created X.read X.updated) key now
+        cache.old.engine clock.old cache.new.engine clock.new (Ok None))) }
     ensures back { IfErr result
         (ComesBack cache.old.engine.state cache.new.engine.state key (λ value. F.post ask (Ok value))) }
 {

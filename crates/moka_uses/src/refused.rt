@@ -44,7 +44,7 @@ pub fn put(
 /// (`sends_after_run`).
 ///
 /// # Errors
-/// `UnknownTicket` where no operation waits under the ticket, and nothing else; the cache is as it was.
+/// `UnknownTicket` if no operation waits under the ticket, and nothing else; the cache is as it was.
 pub fn send_after_all(
     cache: &mut Engine<u64, u64>,
     ticket: Ticket,

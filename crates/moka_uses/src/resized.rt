@@ -8,10 +8,10 @@ ghost use Rattle.moka_uses.specs.Resized.{ShrinksAndGrows};
 use moka_engine::{CapacityError, Engine, FixedClock, Instant};
 
 /// Lets the cache keep no more than `fewer`, evicts at once what exceeds that, and then lets it keep as much as `more`
-/// again. The answer is the weight that is left: where every operation was sent, no more than `fewer`.
+/// again. The answer is the weight that is left: if every operation was sent, no more than `fewer`.
 ///
 /// # Errors
-/// `ZeroCapacity` where the cache's capacity or one of these is 0. Nothing has changed.
+/// `ZeroCapacity` if the cache's capacity or one of these is 0. Nothing has changed.
 pub fn shrink_and_grow(
     cache: &mut Engine<u64, u64>,
     fewer: u64,

@@ -5,7 +5,7 @@ ghost use Rattle.moka_engine.specs.parts.Instant.{Instant};
 ghost use Rattle.moka_engine.specs.Config.{default_config};
 ghost use Rattle.moka_engine.specs.Snapshots.{scene_of};
 ghost use Rattle.moka_engine.specs.declared.base_cache.restores.Restored.{Restored};
-ghost use Rattle.moka_drive.specs.Saved.{AreAllMembers, AreSaved};
+ghost use Rattle.moka_drive.specs.Saved.{HasOnlyMembers, AreSaved};
 ghost use Rattle.moka_uses.specs.Made.{plain_meaning};
 ghost use Rattle.moka_uses.specs.Restarted.{AreAmong, AreBack, AreBegunAgain, AreHandedOver, ArePutBack, Runs};
 
@@ -25,7 +25,7 @@ pub fn save<C: Clock>(
     alloc: Global,
     sessions: &mut Sessions<C>,
 ) -> Result<Vec<Restored<u64, u64>>, OutOfMemory>
-    ensures members { AreAllMembers sessions.new.cache.engine.state }
+    ensures members { HasOnlyMembers sessions.new.cache.engine.state }
     ensures saved { (now : Instant) × (read : C) × C.reads sessions.old.clock now read
         × IfOk result (λ saved. AreSaved (λ _ _ _ answer. answer ≡ false) (λ a b. b ≡ a) (λ a b. b ≡ a)
         (scene_of sessions.new.cache.engine.state now.0) sessions.new.cache.engine.state.access saved.items)
@@ -35,12 +35,12 @@ pub fn save<C: Clock>(
     sessions.save(alloc)
 }
 
-/// The sessions that were saved, but for those that have ended meanwhile. Each ends when it would have ended: where it
+/// The sessions that were saved, but for those that have ended meanwhile. Each ends when it would have ended: if it
 /// is not used for the time `idle`, counted from its last use before the restart.
 ///
 /// # Errors
-/// `OutOfMemory`, also where a user was saved twice or a session has an expiry of its own. Then the sessions are let
-/// go.
+/// `OutOfMemory`, also if a user was saved twice or a session has an expiry of its own. Then the sessions are
+/// dropped.
 pub fn start_again<C: Clock + Drop>(
     alloc: Global,
     idle: Duration,
@@ -69,8 +69,8 @@ pub fn start_again<C: Clock + Drop>(
 /// As `start_again`, with at most so many sessions. If no more were saved, none is left out that has not ended.
 ///
 /// # Errors
-/// `OutOfMemory`, also where a user was saved twice or a session has an expiry of its own. Then the sessions are let
-/// go.
+/// `OutOfMemory`, also if a user was saved twice or a session has an expiry of its own. Then the sessions are
+/// dropped.
 pub fn start_again_within<C: Clock + Drop>(
     alloc: Global,
     idle: Duration,
@@ -99,7 +99,7 @@ pub fn start_again_within<C: Clock + Drop>(
     }
 }
 
-/// New sessions in place of others. Where those have the same idle time and no time to live, each user has the same
+/// New sessions in place of others. If those have the same idle time and no time to live, each user has the same
 /// session in both, from the moments on at which they were saved and put back, until either is used or changed.
 ///
 /// # Errors

@@ -6,8 +6,8 @@ ghost use Rattle.moka_engine.specs.Config.{default_config};
 ghost use Rattle.moka_engine.specs.Records.{record_of_key};
 ghost use Rattle.moka_engine.specs.State.{is_disabled};
 ghost use Rattle.moka_drive.specs.Unsent.{IsThere};
-ghost use Rattle.moka_uses.specs.Made.{Inserts, IsNew, LooksUp, TakesOut, plain_meaning};
-ghost use Rattle.moka_uses.specs.Sessions.{IsFoundWithin, IsTokenOf};
+ghost use Rattle.moka_uses.specs.Made.{HasValue, Inserts, IsNew, LooksUp, TakesOut, plain_meaning};
+ghost use Rattle.moka_uses.specs.Sessions.{IsFoundWithin};
 
 use moka_engine::{CacheConfig, Clock, InsertRefused, OutOfMemory};
 use moka_timed::TimedCache;
@@ -32,7 +32,8 @@ pub fn start<C: Clock + Drop>(
     TimedCache::build(CacheConfig::default().time_to_idle(idle), alloc, clock)
 }
 
-/// Begins a session of a user, used at the clock's moment. One that the user has ends.
+/// Begins a session of a user, used at the clock's moment. One that the user has ends. Where the capacity is 0 none is
+/// kept.
 ///
 /// # Errors
 /// The insert that was refused, with user and token; the sessions are as they were.
@@ -41,9 +42,9 @@ pub fn log_in<C: Clock>(
     user: u64,
     token: u64,
 ) -> Result<(), InsertRefused<u64, u64>>
-    requires { is_disabled sessions.old.cache.engine.state.capacity ≡ false }
     ensures begun { (now : Instant) × (read : C) × C.reads sessions.old.clock now read
-        × IfOk result (λ _. IsThere (λ a b. a == b) sessions.new.cache.engine.state user token now)
+        × IfOk result (λ _. is_disabled sessions.old.cache.engine.state.capacity ≡ false
+        → IsThere (λ a b. a == b) sessions.new.cache.engine.state user token now)
         × Inserts (plain_meaning (λ a b. a == b) C.reads) user now sessions.old.cache.engine read
         sessions.new.cache.engine sessions.new.clock token result }
     ensures back { IfErr result (λ refused. (refused.key ≡ user) × (refused.value ≡ token)) }
@@ -62,13 +63,14 @@ pub fn touch<C: Clock>(sessions: &mut Sessions<C>, user: u64) -> Result<Option<u
         × IfOk result (λ token. IsFoundWithin sessions.old.cache.engine.state user now.0 (is_some token))
         × LooksUp (plain_meaning (λ a b. a == b) C.reads) user now sessions.old.cache.engine read
         sessions.new.cache.engine sessions.new.clock result }
-    ensures kept { IfOk result (λ token. IfSome token (IsTokenOf sessions.old.cache.engine.state user)) }
+    ensures kept { IfOk result (λ token.
+        IfSome token (HasValue (λ a b. a == b) sessions.old.cache.engine.state user)) }
     ensures unchanged { OnErr result (sessions.new.cache.engine.state ≡ sessions.old.cache.engine.state) }
 {
     sessions.get(&user)
 }
 
-/// Ends the session of a user, and hands its token out, also where its time is over. The user has none then.
+/// Ends the session of a user, and hands its token out, also if its time is over. The user has none then.
 pub fn log_out<C: Clock>(sessions: &mut Sessions<C>, user: u64) -> Option<u64>
     ensures token { result ≡ option_map (λ r. r.value)
         (record_of_key (λ a b. a == b) sessions.old.cache.engine.state.records user) }

@@ -1,7 +1,8 @@
 //! Visits, counted by page.
-ghost use Rattle.std.specs.Prelude.{◌≡◌, IfErr, IfOk, IfSome, option_copied};
+ghost use Rattle.std.specs.Prelude.{◌≡◌, IfErr, IfOk, IfSome, Ok, option_copied};
 ghost use Rattle.moka_drive.specs.Given.{ComesBack};
-ghost use Rattle.moka_uses.specs.Visits.{HasLeft, IsFull, LooksUp, PutsCount, RefusesCount, RefusesTake, RemovesCount, meaning, next_count, op_for, page_of};
+ghost use Rattle.moka_uses.specs.Made.{LooksUp};
+ghost use Rattle.moka_uses.specs.Visits.{HasLeft, IsFull, PutsCount, RefusesCount, RefusesTake, RemovesCount, count_at, meaning, next_count, op_for, page_of};
 
 use moka_drive::laws::hears_themselves;
 use moka_drive::{Cache, CompResult, ComputeRefused, GetWithRefused, Op};
@@ -50,7 +51,8 @@ pub fn take_full<C: Clock>(
     ensures removed { IfOk result (λ taken. (count : _) → IsFull visits.old.engine.state page now.0 limit count
         → RemovesCount (meaning C.reads) page now visits.old.engine clock.old visits.new.engine clock.new count taken) }
     ensures looked_up { IfOk result (λ _. ((count : _) → IsFull visits.old.engine.state page now.0 limit count → ⊥)
-        → LooksUp (meaning C.reads) page now visits.old.engine clock.old visits.new.engine clock.new) }
+        → LooksUp (meaning C.reads) page now visits.old.engine clock.old visits.new.engine clock.new
+        (Ok (count_at visits.old.engine.state page now.0))) }
     ensures back { IfErr result (λ refused. page_of refused ≡ page) }
     ensures refused { IfErr result
         (RefusesTake (meaning C.reads) page now visits.old.engine clock.old visits.new.engine clock.new limit) }

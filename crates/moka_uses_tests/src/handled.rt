@@ -1,6 +1,6 @@
 //! Tests of `moka_uses::handled`.
 use crate::equal::assert_equal;
-use anyhow::{Result, bail};
+use anyhow::Result;
 use moka_drive::Cache;
 use moka_engine::{
     CacheConfig, FixedClock, InsertError, Instant, NoExpiry, NoPredicate, OutOfMemory,
@@ -49,9 +49,6 @@ fn does_the_next_best(rt: HostRuntime) -> Result<()> {
         .max_capacity(4)
         .first_ticket(u64::MAX);
     let mut cache: Cache<u64, u64> = Cache::build(config, rt.alloc(), NOW)?;
-    if cache.engine().is_map_disabled() {
-        bail!("a cache of four entries keeps nothing");
-    }
     let refused = put(&mut cache, 1, 10, NOW, clock).err();
     let back = refused.map(|refused| (refused.error, refused.key, refused.value));
     assert_equal(&rt, back, Some((InsertError::NumbersUsedUp, 1, 10)));

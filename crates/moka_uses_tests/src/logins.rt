@@ -1,6 +1,6 @@
 //! Tests of `moka_uses::logins`.
 use crate::equal::assert_equal;
-use anyhow::{Result, bail};
+use anyhow::Result;
 use moka_engine::{Instant, PredicateError};
 use moka_timed::ManualClock;
 use moka_uses::invalidated::CountedIds;
@@ -12,9 +12,6 @@ fn a_log_out_ends_all_of_a_user(rt: HostRuntime) -> Result<()> {
     let clock = ManualClock { now: Instant(0) };
     let mut logins = start(rt.alloc(), Duration::from_nanos(100), clock)?;
     for (number, user) in [(1, 7), (2, 8), (3, 7)] {
-        if logins.cache.engine().is_map_disabled() {
-            bail!("a cache of sessions keeps nothing");
-        }
         let token = number * 10;
         log_in(&mut logins, number, Session { user, token })?;
     }
@@ -31,9 +28,6 @@ fn a_log_out_ends_all_of_a_user(rt: HostRuntime) -> Result<()> {
     assert_equal(&rt, find(&mut logins, 2)?, Some(other));
 
     logins.clock.advance(Duration::from_nanos(1));
-    if logins.cache.engine().is_map_disabled() {
-        bail!("a cache of sessions keeps nothing");
-    }
     let again = Session { user: 7, token: 11 };
     log_in(&mut logins, 1, again)?;
     assert_equal(&rt, find(&mut logins, 1)?, Some(again));

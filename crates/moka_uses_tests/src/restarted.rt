@@ -1,6 +1,6 @@
 //! Tests of `moka_uses::restarted`.
 use crate::equal::assert_equal;
-use anyhow::{Result, bail};
+use anyhow::Result;
 use moka_engine::Instant;
 use moka_timed::ManualClock;
 use moka_uses::restarted::{hand_over, save, start_again, start_again_within};
@@ -10,9 +10,6 @@ use std::time::Duration;
 // Logs users 1 to 3 in, so many nanoseconds apart.
 fn log_three_in(sessions: &mut Sessions<ManualClock>, apart: u64) -> Result<()> {
     for user in 1..4 {
-        if sessions.cache.engine().is_map_disabled() {
-            bail!("a cache of sessions keeps nothing");
-        }
         log_in(sessions, user, user * 10)?;
         sessions.clock.advance(Duration::from_nanos(apart));
     }

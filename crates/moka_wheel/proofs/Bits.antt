@@ -1,7 +1,7 @@
 -- The bits of the buckets.
-use Rattle.std.proofs.Common.{◌≡◌, ◌≢◌, ℕ, ◌+◌, ◌-◌, ◌*◌, ◌/◌, ◌%◌, ◌^◌, ◌<◌, List, length, set, inl, inr, sym, ap, ◌∙◌, arith, bit_and, bit_or, get_or, get_or-set_same, get_or-set_other, w64}
+use Rattle.std.proofs.Common.{◌≡◌, ◌≢◌, ℕ, ◌+◌, ◌-◌, ◌*◌, ◌/◌, ◌%◌, ◌^◌, ◌<◌, List, length, set, inl, inr, ap, ◌∙◌, arith, bit_and, bit_or, get_or, get_or-set_same, get_or-set_other, w64}
 use Rattle.std.proofs.lemmas.Nat.Bits.{bit_at_set_same, bit_at_set_other, bit_at_clear_same, bit_at_clear_other, bit_at-trailing_zeros, bit_at-zero}
-use Rattle.std.proofs.lemmas.Bool.{cases_eq, cases_order}
+use Rattle.std.proofs.lemmas.Bool.{cases_order}
 use Rattle.std.specs.Int.{bit_at, trailing_zeros}
 use Rattle.moka_wheel.specs.Levels.{bit_of}
 
@@ -9,14 +9,7 @@ use Rattle.moka_wheel.specs.Levels.{bit_of}
 bits-written : (ws : List ℕ) (b k v d : ℕ) → b / 64 < length ws → k ≢ b
     → (k / 64 ≡ b / 64 → k % 64 ≢ b % 64 → bit_at v (k % 64) ≡ bit_at (get_or ws (b / 64) 0) (k % 64))
     → bit_of (set ws (b / 64) v) k ≡ bit_of ws k
-bits-written ws b k v d l ne keep = elim (cases_eq (k / 64) (b / 64)) as (λ _. bit_of (set ws (b / 64) v) k ≡ bit_of ws k) [
-  | inl same ↦
-      ap (λ i. bit_at (get_or (set ws (b / 64) v) i 0) (k % 64)) same
-      ∙ ap (λ w. bit_at w (k % 64)) (get_or-set_same ws (b / 64) v 0 l)
-      ∙ keep same (λ e. ne (omega arith))
-      ∙ ap (λ i. bit_at (get_or ws i 0) (k % 64)) (sym same)
-  | inr other ↦ ap (λ w. bit_at w (k % 64)) (get_or-set_other ws (b / 64) (k / 64) v 0 other)
-]
+bits-written ws b k v d l ne keep = grind (arith, keep, get_or-set_same ws (b / 64) v 0 l, get_or-set_other ws (b / 64) (k / 64) v 0)
 
 pub on-same : (ws : List ℕ) (b : ℕ) → b / 64 < length ws → bit_of (set ws (b / 64) (bit_or (get_or ws (b / 64) 0) (1 * 2 ^ (b % 64) % 18446744073709551616))) b ≡ 1
 on-same ws b l = ap (λ w. bit_at w (b % 64)) (get_or-set_same ws (b / 64) _ 0 l) ∙ bit_at_set_same w64 (get_or ws (b / 64) 0) (b % 64) (omega arith)
@@ -35,13 +28,13 @@ pub bit-of_zero : (ws : List ℕ) (k : ℕ) → get_or ws (k / 64) 0 ≡ 0 → b
 bit-of_zero ws k e = ap (λ w. bit_at w (k % 64)) e ∙ bit_at-zero (k % 64)
 
 -- the lowest bit of the first word with any
-pub record First (ws : List ℕ) (b : ℕ) : Type 0 where
+pub record FirstMarked (ws : List ℕ) (b : ℕ) : Type 0 where
   pub within : b < 2048
   pub marked : bit_of ws b ≡ 1
   pub first : (k : ℕ) → k < b → bit_of ws k ≡ 0
 
-pub first-of : (ws : List ℕ) (i w : ℕ) → i < 32 → get_or ws i 0 ≡ w → w ≢ 0 → w < 2 ^ 64 → ((j : ℕ) → j < i → get_or ws j 0 ≡ 0) → First ws (64 * i + trailing_zeros w64 w)
-first-of ws i w l e ne lw low =
+pub first-marked : (ws : List ℕ) (i w : ℕ) → i < 32 → get_or ws i 0 ≡ w → w ≢ 0 → w < 2 ^ 64 → ((j : ℕ) → j < i → get_or ws j 0 ≡ 0) → FirstMarked ws (64 * i + trailing_zeros w64 w)
+first-marked ws i w l e ne lw low =
     let t = trailing_zeros w64 w in
     let z = bit_at-trailing_zeros w64 w (omega arith) lw in
     let small : t < 64 = z.0 in

@@ -1,11 +1,10 @@
 -- Which timers there are after each step, and how many stand in a bucket.
-use Rattle.std.proofs.Common.{◌≡◌, ◌≢◌, ℕ, ◌+◌, ◌<◌, ◌≤◌, cond, nat_eq, nat_lt, List, Some, None, length, set, length-set, inl, inr, refl, sym, ap, ◌∙◌, subst, arith}
-use Rattle.std.proofs.lemmas.Bool.{cases_eq, cases_lt, cond-true, cond-false, eq-eqb, ne_eqb, lt-ltb, le-ltb}
-use Rattle.std.proofs.lemmas.List.Sums.{sum_by-set}
-use Rattle.std.specs.List.{sum_by}
-use Rattle.moka_links.proofs.Nodes as linked
+use Rattle.std.proofs.Common.{◌≡◌, ◌≢◌, ℕ, ◌<◌, ◌≤◌, cond, nat_lt, List, Some, None, length, inl, inr, refl, sym, ap, ◌∙◌, subst, arith}
+use Rattle.std.proofs.lemmas.Bool.{cases_eq, cond-true, cond-false, lt-ltb, le-ltb}
+use Rattle.std.proofs.lemmas.Bool.Decides.{nat_tests}
+use Rattle.std.proofs.lemmas.List.{get_or_past}
 use Rattle.moka_wheel.specs.declared.nodes.Entry.{Entry}
-use Rattle.moka_wheel.specs.Nodes.{Node, nothing, blank, at, befores, behinds, buckets, moments, numbers, detached, attached, held, timer_at}
+use Rattle.moka_wheel.specs.Nodes.{Node, blank, at, befores, behinds, buckets, moments, numbers, detached, attached, held, timer_at}
 use Rattle.moka_wheel.specs.Buckets.{IsTimer, IsPlaced, Keeps}
 use Rattle.moka_wheel.proofs.Sound.{detached-fields, attached-fields}
 
@@ -20,12 +19,13 @@ past-head ns i l = cond-false (nat_lt i 2049) None (held (at ns i)) (le-ltb i 20
 pub head-none : (ns : List Node) (i : ℕ) → i < 2049 → timer_at ns i ≡ None
 head-none ns i l = cond-true (nat_lt i 2049) None (held (at ns i)) (lt-ltb i 2049 l)
 
--- what a node that is free, or past the last, holds
+-- a free node holds none
 pub held-none : (ns : List Node) (i : ℕ) → 2049 ≤ buckets ns i → timer_at ns i ≡ None
-held-none ns i free = elim (cases_lt i 2049) as (λ _. timer_at ns i ≡ None) [
-  | inl head ↦ cond-true (nat_lt i 2049) None (held (at ns i)) (lt-ltb i 2049 head)
-  | inr past ↦ past-head ns i past ∙ cond-false (nat_lt (buckets ns i) 2049) _ None (le-ltb (buckets ns i) 2049 free)
-]
+held-none ns i free = grind (arith, nat_tests)
+
+-- a slot past the last node holds none
+pub past-none : (ns : List Node) (i : ℕ) → length ns ≤ i → timer_at ns i ≡ None
+past-none ns i l = held-none ns i (omega (arith, ap (λ (n : Node). n.value.bucket) (get_or_past ns i blank l)))
 
 pub held-some : (ns : List Node) (i : ℕ) → 2049 ≤ i → buckets ns i < 2049 → timer_at ns i ≡ Some (record { number = numbers ns i; at = moments ns i })
 held-some ns i past held = past-head ns i past ∙ cond-true (nat_lt (buckets ns i) 2049) _ None (lt-ltb (buckets ns i) 2049 held)
@@ -86,20 +86,20 @@ attach-adds ns ws w r s h placed past inside low =
 
 -- a timer that leaves its list and comes into another keeps everything
 pub move-keeps : (ns ms os : List Node) (s : ℕ) → IsTimer ns s → Removes ns ms s → Adds ms os s → Keeps ns os
-move-keeps ns ms os s t r a = record {
-  size = a.size ∙ r.size;
-  timers = λ i. elim (cases_eq i s) as (λ _. timer_at os i ≡ timer_at ns i) [
-    | inl e ↦ ap (timer_at os) e ∙ a.here
-        ∙ ap (λ n. Some (record { number = n; at = moments ms s })) r.number
-        ∙ ap (λ x. Some (record { number = numbers ns s; at = x })) r.moment
-        ∙ sym (held-some ns s t.past t.held) ∙ ap (timer_at ns) (sym e)
-    | inr ne ↦ a.others i ne ∙ r.others i ne
-  ];
-  free = λ i l.
-      let ne : i ≢ s = λ e. omega (arith, ap (buckets ns) e, t.held, l) in
-      let same = r.free i l in
-      a.free i ne (subst (λ n. 2049 ≤ n.value.bucket) (sym same) l) ∙ same;
-}
+move-keeps ns ms os s t r a =
+    let here : timer_at os s ≡ timer_at ns s = a.here ∙ ap (λ n. Some (record { number = n; at = moments ms s })) r.number
+    ∙ ap (λ x. Some (record { number = numbers ns s; at = x })) r.moment ∙ sym (held-some ns s t.past t.held) in
+    record {
+      size = a.size ∙ r.size;
+      timers = λ i. elim (cases_eq i s) as (λ _. timer_at os i ≡ timer_at ns i) [
+        | inl e ↦ ap (timer_at os) e ∙ here ∙ ap (timer_at ns) (sym e)
+        | inr ne ↦ a.others i ne ∙ r.others i ne
+      ];
+      free = λ i l.
+          let ne : i ≢ s = λ e. omega (arith, ap (buckets ns) e, t.held, l) in
+          let same = r.free i l in
+          a.free i ne (subst (λ n. 2049 ≤ n.value.bucket) (sym same) l) ∙ same;
+    }
 
 pub keeps-trans : (ns ms os : List Node) → Keeps ns ms → Keeps ms os → Keeps ns os
 keeps-trans ns ms os a b = record {
@@ -107,53 +107,3 @@ keeps-trans ns ms os a b = record {
   timers = λ i. b.timers i ∙ a.timers i;
   free = λ i l. b.free i (subst (λ n. 2049 ≤ n.value.bucket) (sym (a.free i l)) l) ∙ a.free i l;
 }
-
--- ---- how many nodes name a bucket
-
-abbrev pub names : ℕ → Node → ℕ
-names k n = cond (nat_eq n.value.bucket k) 1 0
-
-abbrev pub count : ℕ → List Node → ℕ
-count k ns = sum_by (names k) ns
-
-count-kept : (k : ℕ) (ns : List Node) (p : ℕ) (v : Node) → p < length ns → v.value.bucket ≡ buckets ns p → count k (set ns p v) ≡ count k ns
-count-kept k ns p v l e =
-    let same : names k v ≡ names k (at ns p) = ap (λ b. cond (nat_eq b k) 1 0) e in
-    omega (arith, sum_by-set (names k) ns p v blank l, same)
-
-pub count-detached : (k : ℕ) (ns : List Node) (s : ℕ) → k < 2049 → s < length ns → befores ns s < length ns → behinds ns s < length ns → buckets ns s ≡ k
-    → count k (detached ns s) + 1 ≡ count k ns
-count-detached k ns s low ls lp lb e =
-    let p = befores ns s in
-    let b = behinds ns s in
-    let v : Node = record (at ns p) { behind = b } in
-    let ms = set ns p v in
-    let w : Node = record (at ms b) { before = p } in
-    let os = set ms b w in
-    let d = linked.Detached-detached nothing ns s lp lb in
-    let x : Node = record (at os s) { value = record (at os s).value { bucket = 2049 } } in
-    let same : count k os ≡ count k ns = count-kept k ms b w (omega (arith, length-set ns p v)) refl ∙ count-kept k ns p v lp refl in
-    let was : names k (at os s) ≡ 1 = cond-true (nat_eq (buckets os s) k) 1 0 (eq-eqb _ _ (ap (λ (i : Entry). i.bucket) d.value_at ∙ e)) in
-    let now : names k x ≡ 0 = cond-false (nat_eq 2049 k) 1 0 (ne_eqb 2049 k (λ z. omega arith)) in
-    omega (arith, sum_by-set (names k) os s x blank (omega (arith, d.size)), was, now, same)
-
-pub count-attached : (k : ℕ) (ns : List Node) (s h : ℕ) → s < length ns → h < length ns → befores ns h < length ns → buckets ns s ≢ k → h ≢ k → count k (attached ns s h) ≡ count k ns
-count-attached k ns s h ls lh ll ne nh =
-    let last = befores ns h in
-    let v1 : Node = record (at ns s) { before = last } in
-    let ms1 = set ns s v1 in
-    let e1 : length ms1 ≡ length ns = length-set ns s v1 in
-    let v2 : Node = record (at ms1 s) { behind = h } in
-    let ms2 = set ms1 s v2 in
-    let e2 : length ms2 ≡ length ns = length-set ms1 s v2 ∙ e1 in
-    let v3 : Node = record (at ms2 last) { behind = s } in
-    let ms3 = set ms2 last v3 in
-    let e3 : length ms3 ≡ length ns = length-set ms2 last v3 ∙ e2 in
-    let v4 : Node = record (at ms3 h) { before = s } in
-    let os = set ms3 h v4 in
-    let a = linked.Attached-attached nothing ns s h ls lh ll in
-    let x : Node = record (at os s) { value = record (at os s).value { bucket = h } } in
-    let same : count k os ≡ count k ns = count-kept k ms3 h v4 (omega arith) refl ∙ count-kept k ms2 last v3 (omega arith) refl ∙ count-kept k ms1 s v2 (omega arith) refl ∙ count-kept k ns s v1 ls refl in
-    let was : names k (at os s) ≡ 0 = cond-false (nat_eq (buckets os s) k) 1 0 (ne_eqb _ _ (λ z. ne (sym (ap (λ (i : Entry). i.bucket) a.value_at) ∙ z))) in
-    let now : names k x ≡ 0 = cond-false (nat_eq h k) 1 0 (ne_eqb h k nh) in
-    omega (arith, sum_by-set (names k) os s x blank (omega (arith, a.size)), was, now, same)

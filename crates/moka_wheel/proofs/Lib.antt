@@ -1,5 +1,6 @@
 pub mod Parts
 pub mod Bits
+pub mod Counts
 pub mod Rings
 pub mod Moves
 pub mod Sound

@@ -1,22 +1,22 @@
 -- The timers of the nodes as a map.
 use Rattle.std.proofs.Common.{◌≡◌, ℕ, cond, nat_eq, List, Some, None, length, inl, inr, sym, ap, ◌∙◌, arith}
-use Rattle.std.proofs.lemmas.Bool.{cases_eq, cases_lt}
+use Rattle.std.proofs.lemmas.Bool.{cases_lt}
+use Rattle.std.proofs.lemmas.Bool.Decides.{nat_tests}
 use Rattle.std.proofs.lemmas.Cmp.{nat_cmp_total}
-use Rattle.std.proofs.lemmas.List.{get_or_past}
 use Rattle.std.specs.Ordering.{nat_cmp}
 use Rattle.std.specs.FinMap.{FinMap, get, insert, remove, same_map, nat_cmp-IsAntisymmetric}
-use Rattle.moka_links.proofs.FinMaps.{get-put, get-inserted, get-past_insert, get-taken, get-removed, get-past_remove}
+use Rattle.moka_links.proofs.FinMaps.{get-put, get-taken}
 use Rattle.moka_wheel.specs.Wheel.{Timer}
-use Rattle.moka_wheel.specs.Nodes.{Node, blank, timer_at, timers_of}
+use Rattle.moka_wheel.specs.Nodes.{Node, timer_at, timers_of}
 use Rattle.moka_wheel.specs.Buckets.{Keeps, Puts, Takes}
-use Rattle.moka_wheel.proofs.Frames.{held-none}
+use Rattle.moka_wheel.proofs.Frames.{past-none}
 use Rattle.moka_wheel.proofs.SlotMaps.{get-within, get-past}
 
 -- the map has in each slot the timer of its node
 pub get-timers : (ns : List Node) (q : ℕ) → get (timers_of ns) q ≡ timer_at ns q
 get-timers ns q = elim (cases_lt q (length ns)) as (λ _. get (timers_of ns) q ≡ timer_at ns q) [
   | inl l ↦ get-within (timer_at ns) (length ns) q l
-  | inr l ↦ get-past (timer_at ns) (length ns) q l ∙ sym (held-none ns q (omega (arith, ap (λ (n : Node). n.value.bucket) (get_or_past ns q blank l))))
+  | inr l ↦ get-past (timer_at ns) (length ns) q l ∙ sym (past-none ns q l)
 ]
 
 pub same-timers : (ns : List Node) (m : FinMap nat_cmp Timer) → ((q : ℕ) → timer_at ns q ≡ get m q) → timers_of ns ≡ m
@@ -26,16 +26,10 @@ pub keeps-timers : (ns ms : List Node) → Keeps ns ms → timers_of ms ≡ time
 keeps-timers ns ms k = same-timers ms (timers_of ns) (λ q. k.timers q ∙ sym (get-timers ns q))
 
 pub puts-timers : (ns ms : List Node) (s : ℕ) (t : Timer) → Puts ns ms s t → timers_of ms ≡ insert (timers_of ns) s t
-puts-timers ns ms s t p = same-timers ms (insert (timers_of ns) s t) (λ q. elim (cases_eq q s) as (λ _. timer_at ms q ≡ get (insert (timers_of ns) s t) q) [
-  | inl e ↦ ap (timer_at ms) e ∙ p.here ∙ sym (get-inserted (timers_of ns) s t) ∙ ap (get (insert (timers_of ns) s t)) (sym e)
-  | inr ne ↦ p.others q ne ∙ sym (get-timers ns q) ∙ sym (get-past_insert (timers_of ns) s t q ne)
-])
+puts-timers ns ms s t p = same-timers ms (insert (timers_of ns) s t) (λ q. grind (arith, nat_tests, p.here, p.others q, get-timers ns q, get-put (timers_of ns) s t q))
 
 pub takes-timers : (ns ms : List Node) (s next : ℕ) → Takes ns ms s next → timers_of ms ≡ remove (timers_of ns) s
-takes-timers ns ms s next p = same-timers ms (remove (timers_of ns) s) (λ q. elim (cases_eq q s) as (λ _. timer_at ms q ≡ get (remove (timers_of ns) s) q) [
-  | inl e ↦ ap (timer_at ms) e ∙ p.here ∙ sym (get-removed (timers_of ns) s) ∙ ap (get (remove (timers_of ns) s)) (sym e)
-  | inr ne ↦ p.others q ne ∙ sym (get-timers ns q) ∙ sym (get-past_remove (timers_of ns) s q ne)
-])
+takes-timers ns ms s next p = same-timers ms (remove (timers_of ns) s) (λ q. grind (arith, nat_tests, p.here, p.others q, get-timers ns q, get-taken (timers_of ns) s q))
 
 -- ---- a look-up after each change
 

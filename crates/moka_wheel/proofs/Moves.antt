@@ -1,7 +1,7 @@
 -- What a move of the wheel's moment leaves of the places of the timers.
-use Rattle.std.proofs.Common.{◌≡◌, ◌≢◌, ℕ, ◌+◌, ◌-◌, ◌*◌, ◌/◌, ◌%◌, ◌^◌, ◌<◌, ◌≤◌, ◌⊎◌, inl, inr, sym, ap, ◌∙◌, subst, arith}
-use Rattle.std.proofs.lemmas.Nat.{pow_pos, pow-add, shr_below, shl_whole, shl-shr, div_below}
-use Rattle.std.proofs.lemmas.Bool.{cases_order}
+use Rattle.std.proofs.Common.{◌≡◌, ◌≢◌, ℕ, ◌+◌, ◌-◌, ◌*◌, ◌/◌, ◌%◌, ◌^◌, ◌<◌, ◌≤◌, inl, inr, sym, ap, ◌∙◌, subst, arith}
+use Rattle.std.proofs.lemmas.Nat.{pow_pos, pow-add, shr_below, shl_whole, le-div, div_below}
+use Rattle.std.proofs.lemmas.Bool.{cases_lt, cases_order}
 use Rattle.moka_wheel.specs.Levels.{part, IsNear, IsAhead, IsHome}
 use Rattle.moka_wheel.proofs.Parts.{part-up, part-mono, part-same_above, part-later}
 
@@ -17,8 +17,12 @@ start-fits w l b lw ll lb =
     let split : 2 ^ (j + 8) ≡ 2 ^ j * 256 = pow-add 2 j 8 in
     shl_whole (part w l / 256 * 256 + b) (j + 8) (8 * l) 64 (omega (arith, low, split)) (omega arith)
 
-pub part-start : (w l q : ℕ) → part (q * 2 ^ (8 * l)) l ≡ q
-part-start w l q = shl-shr q (8 * l)
+-- the part of each moment in a bucket is that of its start
+pub part-within : (l q s m n : ℕ) → s ≡ q * 2 ^ (8 * l) → n ≡ 2 ^ (8 * l) → m < n → part (s + m) l ≡ q
+part-within l q s m n e f h =
+    let at_least = le-div q (s + m) (2 ^ (8 * l)) (pow_pos (8 * l)) (omega (arith, e)) in
+    let at_most = div_below (s + m) (2 ^ (8 * l)) (q + 1) (pow_pos (8 * l)) (omega (arith, e, f, h)) in
+    omega (arith, at_least, at_most)
 
 -- before the start of a bucket the wheel's part is below the bucket's
 pub part-before : (u l q : ℕ) → u < q * 2 ^ (8 * l) → part u l < q
@@ -58,25 +62,22 @@ pub record Reached (w u b : ℕ) : Type 0 where
   pub same : part u (b / 256) / 256 ≡ part w (b / 256) / 256
   pub part_is : part u (b / 256) ≡ start w b
 
-pub reach : (w b : ℕ) → IsAhead w b → Reached w (start w b * 2 ^ (8 * (b / 256))) b
-reach w b ahead =
-    let l = b / 256 in
-    let u = start w b * 2 ^ (8 * l) in
-    let is : part u l ≡ start w b = part-start w l (start w b) in
-    record {
-      later = part-later w u l (omega (arith, is));
-      here = omega (arith, is);
-      same = omega (arith, is);
-      part_is = is;
-    }
+-- a moment in a bucket that is ahead
+pub reach : (w u b : ℕ) → IsAhead w b → part u (b / 256) ≡ start w b → Reached w u b
+reach w u b ahead is = record {
+  later = part-later w u (b / 256) (omega (arith, is));
+  here = omega (arith, is);
+  same = omega (arith, is);
+  part_is = is;
+}
 
 -- before the start of the first marked bucket, each marked bucket stays ahead
-pub before-first : (w u b k : ℕ) → w ≤ u → u < start w b * 2 ^ (8 * (b / 256)) → ((b ≡ k) ⊎ (b < k)) → IsAhead w b → IsAhead w k → part u (k / 256) < start w k
+pub before-first : (w u b k : ℕ) → w ≤ u → u < start w b * 2 ^ (8 * (b / 256)) → b ≤ k → IsAhead w b → IsAhead w k → part u (k / 256) < start w k
 before-first w u b k le early order ahead_b ahead_k =
     let low : part u (b / 256) < start w b = part-before u (b / 256) (start w b) early in
-    elim order as (λ _. part u (k / 256) < start w k) [
-      | inl e ↦ subst (λ n. part u (n / 256) < start w n) e low
-      | inr later ↦ past-first w u b k (omega arith) later (stays-while w u b le low).same ahead_k
+    elim (cases_lt b k) as (λ _. part u (k / 256) < start w k) [
+      | inl later ↦ past-first w u b k (omega arith) later (stays-while w u b le low).same ahead_k
+      | inr same ↦ subst (λ n. part u (n / 256) < start w n) (omega arith) low
     ]
 
 -- a timer in a bucket that is ahead is later than the wheel

@@ -1,9 +1,8 @@
 -- The arithmetic of the wheel's levels.
-use Rattle.std.proofs.Common.{◌≡◌, ◌≢◌, ℕ, suc, ◌+◌, ◌-◌, ◌*◌, ◌/◌, ◌%◌, ◌^◌, ◌<◌, ◌≤◌, inl, inr, sym, ap, ◌∙◌, subst, arith, bit_and, bit_xor, lit<}
+use Rattle.std.proofs.Common.{◌≡◌, ◌≢◌, ℕ, suc, ◌+◌, ◌-◌, ◌*◌, ◌/◌, ◌%◌, ◌^◌, ◌<◌, ◌≤◌, sym, ap, ◌∙◌, subst, arith, bit_and, bit_xor, lit<}
 use Rattle.std.proofs.Math.Nat.{div-eq_of_lt, pow-le-pow_right, div-mul-le_self}
 use Rattle.std.proofs.lemmas.Nat.{pow_pos, shr-shr, and_mask, xor_shr, xor_lt, leading_top, le-div}
 use Rattle.std.proofs.lemmas.Nat.Bits.{bit_at_xor, same_from_bits, bit_at-lt, bit_at-zero}
-use Rattle.std.proofs.lemmas.Bool.{cases_order, cases_lt}
 use Rattle.std.specs.Int.{bit_at}
 use Rattle.std.specs.Int.Count.{count_leading_zeros}
 use Rattle.moka_wheel.specs.Levels.{part, IsHome}
@@ -16,20 +15,14 @@ pub part-mono : (x y l : ℕ) → x ≤ y → part x l ≤ part y l
 part-mono x y l h = le-div (part x l) y (2 ^ (8 * l)) (pow_pos (8 * l)) (omega (arith, div-mul-le_self x (2 ^ (8 * l)), h))
 
 -- what is the same at a level is the same at each level above
-pub part-same : (x y l n : ℕ) → part x l ≡ part y l → part x (l + n) ≡ part y (l + n)
-part-same x y l n e =
-    let up : (z : ℕ) → part z (l + n) ≡ part z l / 2 ^ (8 * n) = λ z. ap (λ k. z / 2 ^ k) (omega arith) ∙ sym (shr-shr z (8 * l) (8 * n)) in
-    up x ∙ ap (λ k. k / 2 ^ (8 * n)) e ∙ sym (up y)
-
 pub part-same_above : (x y l m : ℕ) → l ≤ m → part x l ≡ part y l → part x m ≡ part y m
-part-same_above x y l m h e = ap (part x) (omega arith) ∙ part-same x y l (m - l) e ∙ ap (part y) (omega arith)
+part-same_above x y l m h e =
+    let up : (z : ℕ) → part z m ≡ part z l / 2 ^ (8 * (m - l)) = λ z. ap (λ k. z / 2 ^ k) (omega arith) ∙ sym (shr-shr z (8 * l) (8 * (m - l))) in
+    up x ∙ ap (λ k. k / 2 ^ (8 * (m - l))) e ∙ sym (up y)
 
 -- a greater part is of a greater number
 pub part-later : (x y l : ℕ) → part x l < part y l → x < y
-part-later x y l h = elim (cases_lt x y) as (λ _. x < y) [
-  | inl less ↦ less
-  | inr more ↦ absurd (omega (arith, part-mono y x l more, h))
-]
+part-later x y l h = grind (arith, part-mono y x l)
 
 -- numbers with no bit apart are equal
 same_from_xor : (a b : ℕ) → bit_xor a b ≡ 0 → a ≡ b
@@ -41,11 +34,7 @@ xor_self : (a : ℕ) → bit_xor a a ≡ 0
 xor_self a = same_from_bits (bit_xor a a) 0 (λ i. omega (arith, bit_at_xor a a i, bit_at-zero i, bit_at-lt a i))
 
 xor_positive : (a b : ℕ) → a ≢ b → 0 < bit_xor a b
-xor_positive a b ne = elim (cases_order (bit_xor a b) 0) as (λ _. 0 < bit_xor a b) [
-  | inl e ↦ absurd (ne (same_from_xor a b e))
-  | inr (inl l) ↦ absurd (omega arith)
-  | inr (inr l) ↦ l
-]
+xor_positive a b ne = grind (arith, same_from_xor a b)
 
 -- the level of the highest byte in which two numbers differ
 pub record DifferAt (a b level : ℕ) : Type 0 where

@@ -1,17 +1,18 @@
 -- What each step leaves of the wheel's lists.
-use Rattle.std.proofs.Common.{◌≡◌, ◌≢◌, ℕ, ◌+◌, ◌*◌, ◌/◌, ◌%◌, ◌^◌, ◌<◌, ◌≤◌, cond, nat_eq, List, length, inl, inr, refl, sym, ap, ◌∙◌, subst, arith}
+use Rattle.std.proofs.Common.{◌≡◌, ◌≢◌, ℕ, ◌+◌, ◌*◌, ◌/◌, ◌%◌, ◌^◌, ◌<◌, ◌≤◌, cond, nat_eq, List, length, get_or, inl, inr, refl, sym, ap, ◌∙◌, subst, arith}
 use Rattle.std.proofs.lemmas.Bool.{cases_eq, cases_order, cond-true, cond-false, eq-eqb, ne_eqb}
+use Rattle.std.proofs.lemmas.List.{get_or_read}
 use Rattle.moka_links.specs.Links as links
 use Rattle.moka_links.proofs.Nodes.{Detached, Detached-detached, Detached-valued, Attached, Attached-attached, Attached-valued}
 use Rattle.moka_wheel.specs.declared.nodes.Entry.{Entry}
-use Rattle.moka_wheel.specs.Nodes.{Node, nothing, at, befores, behinds, buckets, moments, detached, attached, Links}
+use Rattle.moka_wheel.specs.Nodes.{Node, nothing, blank, at, befores, behinds, buckets, moments, detached, attached, Links}
 use Rattle.moka_wheel.specs.Levels.{part, IsNear, IsAhead, IsHome, bit_of}
 use Rattle.moka_wheel.specs.Buckets.{IsTimer, IsPlaced}
 use Rattle.moka_wheel.proofs.Rings.{Links-detach, Links-attach, no-timer, first-timer}
 use Rattle.moka_wheel.proofs.Moves.{start, stays-while, near-along, past-first, reach, before-first, near-later}
 
 -- the parts of an entry
-abbrev bucket : Entry → ℕ
+abbrev pub bucket : Entry → ℕ
 bucket e = e.bucket
 
 abbrev moment : Entry → ℕ
@@ -21,28 +22,39 @@ moment e = e.at
 abbrev put_in : ℕ → Entry → Entry
 put_in k e = record e { bucket = k }
 
+-- ---- what holds of each timer
+
+-- an entry is in the list where its moment belongs, and the bucket is marked
+pub record Belongs (ws : List ℕ) (w : ℕ) (e : Entry) : Type 0 where
+  pub due : e.bucket ≡ 2048 → e.at ≤ w
+  pub marked : e.bucket < 2048 → bit_of ws e.bucket ≡ 1
+  pub near : e.bucket < 2048 → IsNear w e.at e.bucket
+
+-- so does the entry of each timer, also where it is kept
+pub kept : (ns ms : List Node) (ws : List ℕ) (w r i : ℕ) → IsPlaced ns ws w r → IsTimer ms i → i < length ns → (at ms i).value ≡ (at ns i).value → Belongs ws w (at ms i).value
+kept ns ms ws w r i placed t inside e =
+    let was : IsTimer ns i = record { past = t.past; within = inside; held = omega (arith, t.held, ap bucket e) } in
+    subst (Belongs ws w) (sym e) (record { due = placed.due i was; marked = placed.marked i was; near = placed.near i was })
+
+pub placed-from : (ms : List Node) (vs : List ℕ) (w r : ℕ) (rank : ℕ → ℕ) → Links (length ms) (behinds ms) (befores ms) (buckets ms) rank
+    → ((i : ℕ) → IsTimer ms i → Belongs vs w (at ms i).value) → ((k : ℕ) → k < 2048 → k ≢ r → bit_of vs k ≡ 1 → IsAhead w k)
+    → (r < 2048 → part w (r / 256) % 256 ≡ r % 256) → IsPlaced ms vs w r
+placed-from ms vs w r rank links each ahead here = record {
+  rank = rank;
+  links = links;
+  due = λ i t. (each i t).due;
+  marked = λ i t. (each i t).marked;
+  near = λ i t. (each i t).near;
+  ahead = ahead;
+  here = here;
+}
+
 -- ---- a timer leaves its list
 
 pub detached-fields : (ns : List Node) (ws : List ℕ) (w r s : ℕ) → IsPlaced ns ws w r → IsTimer ns s → Detached nothing ns (detached ns s) s (put_in 2049 (at ns s).value) (befores ns s) (behinds ns s)
 detached-fields ns ws w r s placed t =
     let d = Detached-detached nothing ns s (placed.links.back s t.within t.held).within (placed.links.on s t.within t.held).within in
     Detached-valued nothing ns (links.detached nothing ns s) s (at ns s).value (befores ns s) (behinds ns s) (put_in 2049) (omega (arith, d.size, t.within)) d
-
-pub record Left (ns ms : List Node) (s i : ℕ) : Type 0 where
-  pub other : i ≢ s
-  pub was : IsTimer ns i
-  pub bucket : buckets ms i ≡ buckets ns i
-
-pub left-of : (ns ms : List Node) (s p b i : ℕ) → Detached nothing ns ms s (put_in 2049 (at ns s).value) p b → IsTimer ms i → Left ns ms s i
-left-of ns ms s p b i d t =
-    let free : buckets ms s ≡ 2049 = ap bucket d.value_at in
-    let ne : i ≢ s = λ e. omega (arith, ap (buckets ms) e, free, t.held) in
-    let same : buckets ms i ≡ buckets ns i = ap bucket (d.value i ne) in
-    record {
-      other = ne;
-      was = record { past = t.past; within = omega (arith, t.within, d.size); held = omega (arith, t.held, same) };
-      bucket = same;
-    }
 
 pub detach-placed : (ns : List Node) (ws : List ℕ) (w r s : ℕ) → IsPlaced ns ws w r → IsTimer ns s → IsPlaced (detached ns s) ws w r
 detach-placed ns ws w r s placed t =
@@ -51,18 +63,9 @@ detach-placed ns ws w r s placed t =
     let links : Links (length ns) (behinds ms) (befores ms) (buckets ms) placed.rank =
     Links-detach (length ns) s (behinds ns) (befores ns) (buckets ns) placed.rank (behinds ms) (befores ms) (buckets ms) placed.links t.past t.within t.held
     d.behind d.behind_at d.before d.before_at (λ i ne. ap bucket (d.value i ne)) (ap bucket d.value_at) in
-    record {
-      rank = placed.rank;
-      links = subst (λ n. Links n (behinds ms) (befores ms) (buckets ms) placed.rank) (sym d.size) links;
-      due = λ i q e. let was = left-of ns ms s _ _ i d q in
-          subst (λ x. x ≤ w) (sym (ap moment (d.value i was.other))) (placed.due i was.was (sym was.bucket ∙ e));
-      marked = λ i q l. let was = left-of ns ms s _ _ i d q in
-          ap (bit_of ws) was.bucket ∙ placed.marked i was.was (omega (arith, was.bucket, l));
-      near = λ i q l. let was = left-of ns ms s _ _ i d q in
-          subst (λ k. IsNear w (moments ms i) k) (sym was.bucket) (subst (λ a. IsNear w a (buckets ns i)) (sym (ap moment (d.value i was.other))) (placed.near i was.was (omega (arith, was.bucket, l))));
-      ahead = placed.ahead;
-      here = placed.here;
-    }
+    placed-from ms ws w r placed.rank (subst (λ n. Links n (behinds ms) (befores ms) (buckets ms) placed.rank) (sym d.size) links) (λ i q.
+    let other : i ≢ s = λ e. omega (arith, ap (buckets ms) e, ap bucket d.value_at, q.held) in
+    kept ns ms ws w r i placed q (omega (arith, q.within, d.size)) (d.value i other)) placed.ahead placed.here
 
 -- ---- a free node comes to the list where its moment belongs
 
@@ -79,9 +82,6 @@ pub attach-placed : (ns : List Node) (ws vs : List ℕ) (w r s h : ℕ) → IsPl
 attach-placed ns ws vs w r s h placed past inside free home here others =
     let ms = attached ns s h in
     let a = attached-fields ns ws w r s h placed inside home.within in
-    let bucket_is : (i : ℕ) → i ≢ s → buckets ms i ≡ buckets ns i = λ i ne. ap bucket (a.value i ne) in
-    let bucket_at : buckets ms s ≡ h = ap bucket a.value_at in
-    let moment_at : moments ms s ≡ moments ns s = ap moment a.value_at in
     let kh = placed.links.head h home.within in
     let h_in : h < length ns = omega (arith, placed.links.sized) in
     let last_same = (placed.links.back h h_in (omega (arith, kh))).same in
@@ -91,38 +91,22 @@ attach-placed ns ws vs w r s h placed past inside free home here others =
     let rank : ℕ → ℕ = λ i. cond (nat_eq i s) top (placed.rank i) in
     let links : Links (length ns) (behinds ms) (befores ms) (buckets ms) rank =
     Links-attach (length ns) s h (behinds ns) (befores ns) (buckets ns) placed.rank (behinds ms) (befores ms) (buckets ms) rank placed.links past inside free home.within
-    a.behind a.behind_last (a.behind_at not_last) a.before a.before_head (a.before_at not_head) bucket_is bucket_at
+    a.behind a.behind_last (a.behind_at not_last) a.before a.before_head (a.before_at not_head) (λ i ne. ap bucket (a.value i ne)) (ap bucket a.value_at)
     (λ i ne. cond-false (nat_eq i s) top (placed.rank i) (ne_eqb i s ne))
     (cond-true (nat_eq s s) top (placed.rank s) (eq-eqb s s refl)) in
-    let was : (i : ℕ) → i ≢ s → IsTimer ms i → IsTimer ns i = λ i ne q. record { past = q.past; within = omega (arith, q.within, a.size); held = omega (arith, q.held, bucket_is i ne) } in
-    let stays : (k : ℕ) → bit_of ws k ≡ 1 → k < 2048 → bit_of vs k ≡ 1 = λ k e l. elim (cases_eq k h) as (λ _. bit_of vs k ≡ 1) [
-      | inl same ↦ ap (bit_of vs) same ∙ here (omega arith)
-      | inr ne ↦ others k ne ∙ e
-    ] in
-    record {
-      rank = rank;
-      links = subst (λ n. Links n (behinds ms) (befores ms) (buckets ms) rank) (sym a.size) links;
-      due = λ i q e. elim (cases_eq i s) as (λ _. moments ms i ≤ w) [
-        | inl same ↦ subst (λ x. moments ms x ≤ w) (sym same) (subst (λ x. x ≤ w) (sym moment_at) (home.due (sym bucket_at ∙ ap (buckets ms) (sym same) ∙ e)))
-        | inr ne ↦ subst (λ x. x ≤ w) (sym (ap moment (a.value i ne))) (placed.due i (was i ne q) (sym (bucket_is i ne) ∙ e))
-      ];
-      marked = λ i q l. elim (cases_eq i s) as (λ _. bit_of vs (buckets ms i) ≡ 1) [
-        | inl same ↦ let e : buckets ms i ≡ h = ap (buckets ms) same ∙ bucket_at in ap (bit_of vs) e ∙ here (omega (arith, e, l))
-        | inr ne ↦ ap (bit_of vs) (bucket_is i ne) ∙ stays (buckets ns i) (placed.marked i (was i ne q) (omega (arith, bucket_is i ne, l))) (omega (arith, bucket_is i ne, l))
-      ];
-      near = λ i q l. elim (cases_eq i s) as (λ _. IsNear w (moments ms i) (buckets ms i)) [
-        | inl same ↦
-            let e : buckets ms i ≡ h = ap (buckets ms) same ∙ bucket_at in
-            let f : moments ms i ≡ moments ns s = ap (moments ms) same ∙ moment_at in
-            subst (λ k. IsNear w (moments ms i) k) (sym e) (subst (λ x. IsNear w x h) (sym f) (home.near (omega (arith, e, l))))
-        | inr ne ↦ subst (λ k. IsNear w (moments ms i) k) (sym (bucket_is i ne)) (subst (λ x. IsNear w x (buckets ns i)) (sym (ap moment (a.value i ne))) (placed.near i (was i ne q) (omega (arith, bucket_is i ne, l))))
-      ];
-      ahead = λ k l ne on. elim (cases_eq k h) as (λ _. IsAhead w k) [
-        | inl same ↦ subst (λ x. IsAhead w x) (sym same) (home.ahead (omega arith))
-        | inr other ↦ placed.ahead k l ne (sym (others k other) ∙ on)
-      ];
-      here = placed.here;
-    }
+    let stays : (k : ℕ) → bit_of ws k ≡ 1 → k < 2048 → bit_of vs k ≡ 1 = λ k e l. grind (arith, here, others k) in
+    placed-from ms vs w r rank (subst (λ n. Links n (behinds ms) (befores ms) (buckets ms) rank) (sym a.size) links)
+    (λ i q. elim (cases_eq i s) as (λ _. Belongs vs w (at ms i).value) [
+      | inl same ↦ subst (λ j. Belongs vs w (at ms j).value) (sym same) (subst (Belongs vs w) (sym a.value_at) (record { due = home.due; marked = here; near = home.near }))
+      | inr ne ↦
+          let was = kept ns ms ws w r i placed q (omega (arith, q.within, a.size)) (a.value i ne) in
+          record { due = was.due; marked = λ l. stays (buckets ms i) (was.marked l) l; near = was.near }
+    ])
+    (λ k l ne on. elim (cases_eq k h) as (λ _. IsAhead w k) [
+      | inl same ↦ subst (λ x. IsAhead w x) (sym same) (home.ahead (omega arith))
+      | inr other ↦ placed.ahead k l ne (sym (others k other) ∙ on)
+    ])
+    placed.here
 
 -- ---- the wheel's moment moves
 
@@ -147,17 +131,15 @@ move-placed ns ws w u r placed le early here same = record {
   here = here;
 }
 
--- to the start of the first marked bucket
-pub reach-placed : (ns : List Node) (ws : List ℕ) (w b : ℕ) → IsPlaced ns ws w 2048 → b < 2048 → bit_of ws b ≡ 1 → ((k : ℕ) → k < b → bit_of ws k ≡ 0)
-    → IsPlaced ns ws (start w b * 2 ^ (8 * (b / 256))) b
-reach-placed ns ws w b placed low on first =
-    let u = start w b * 2 ^ (8 * (b / 256)) in
-    let r = reach w b (placed.ahead b low (λ e. omega arith) on) in
-    let at_most : part u (b / 256) ≤ start w b = omega (arith, r.part_is) in
+-- to a moment in the first marked bucket
+pub reach-placed : (ns : List Node) (ws : List ℕ) (w u b : ℕ) → IsPlaced ns ws w 2048 → b < 2048 → bit_of ws b ≡ 1 → ((k : ℕ) → k < b → bit_of ws k ≡ 0)
+    → part u (b / 256) ≡ start w b → IsPlaced ns ws u b
+reach-placed ns ws w u b placed low on first is =
+    let r = reach w u b (placed.ahead b low (λ e. omega arith) on) is in
     move-placed ns ws w u b placed (omega (arith, r.later))
     (λ k l ne marked. elim (cases_order b k) as (λ _. part u (k / 256) < start w k) [
       | inl e ↦ absurd (ne (sym e))
-      | inr (inl later) ↦ past-first w u b k at_most later r.same (placed.ahead k l (λ e. omega arith) marked)
+      | inr (inl later) ↦ past-first w u b k (omega (arith, is)) later r.same (placed.ahead k l (λ e. omega arith) marked)
       | inr (inr earlier) ↦ absurd (omega (arith, first k earlier, marked))
     ])
     (λ _. r.here) (λ _. r.same)
@@ -168,11 +150,7 @@ pub early-placed : (ns : List Node) (ws : List ℕ) (w u b : ℕ) → IsPlaced n
 early-placed ns ws w u b placed le low on first early =
     let ahead = placed.ahead b low (λ e. omega arith) on in
     move-placed ns ws w u 2048 placed le
-    (λ k l ne marked. elim (cases_order b k) as (λ _. part u (k / 256) < start w k) [
-      | inl e ↦ before-first w u b k le early (inl e) ahead (placed.ahead k l ne marked)
-      | inr (inl later) ↦ before-first w u b k le early (inr later) ahead (placed.ahead k l ne marked)
-      | inr (inr earlier) ↦ absurd (omega (arith, first k earlier, marked))
-    ])
+    (λ k l ne marked. before-first w u b k le early (grind (arith, first k, marked)) ahead (placed.ahead k l ne marked))
     (λ l. absurd (omega arith)) (λ l. absurd (omega arith))
 
 -- ---- the bucket that was reached is empty
@@ -182,18 +160,12 @@ pub empty-placed : (ns : List Node) (ws vs : List ℕ) (w r : ℕ) → IsPlaced 
 empty-placed ns ws vs w r placed low own off others =
     let none : (i : ℕ) → IsTimer ns i → buckets ns i ≢ r = λ i t e.
     no-timer (length ns) r (behinds ns) (befores ns) (buckets ns) placed.rank placed.links (omega arith) own (placed.rank i + 1) i (omega arith) t.past t.within e in
-    record {
-      rank = placed.rank;
-      links = placed.links;
-      due = placed.due;
-      marked = λ i t l. others (buckets ns i) (none i t) ∙ placed.marked i t l;
-      near = placed.near;
-      ahead = λ k l ne on. elim (cases_eq k r) as (λ _. IsAhead w k) [
-        | inl e ↦ absurd (omega (arith, ap (bit_of vs) e, off, on))
-        | inr other ↦ placed.ahead k l other (sym (others k other) ∙ on)
-      ];
-      here = λ l. absurd (omega arith);
-    }
+    placed-from ns vs w 2048 placed.rank placed.links
+    (λ i t. record { due = placed.due i t; marked = λ l. others (buckets ns i) (none i t) ∙ placed.marked i t l; near = placed.near i t })
+    (λ k l ne on.
+    let other : k ≢ r = λ e. omega (arith, ap (bit_of vs) e, off, on) in
+    placed.ahead k l other (sym (others k other) ∙ on))
+    (λ l. absurd (omega arith))
 
 -- ---- which timers are due
 
@@ -209,11 +181,14 @@ all-later ns ws w i placed own t = elim (cases_eq (buckets ns i) 2048) as (λ _.
   | inr ne ↦ bucket-later ns ws w i placed t (omega (arith, t.held))
 ]
 
--- the first behind a head
-pub first-is : (ns : List Node) (ws : List ℕ) (w r h : ℕ) → IsPlaced ns ws w r → h < 2049 → behinds ns h ≢ h → IsTimer ns (behinds ns h) × (buckets ns (behinds ns h) ≡ h)
-first-is ns ws w r h placed low ne =
-    let t = first-timer (length ns) h (behinds ns) (befores ns) (buckets ns) placed.rank placed.links low ne in
-    (record { past = t.past; within = t.within; held = omega (arith, t.bucket) }, t.bucket)
+-- the first behind a head, by what is read of it: a test that it is not the head, and the slot
+pub behind-read : (ns : List Node) (ws : List ℕ) (w r h : ℕ) (tested read : Node) → IsPlaced ns ws w r → h < 2049
+    → tested ≡ get_or ns h tested → read ≡ get_or ns h read → tested.behind ≢ h → IsTimer ns read.behind × (buckets ns read.behind ≡ h)
+behind-read ns ws w r h tested read placed low is_tested is_read ne =
+    let inside : h < length ns = omega (arith, placed.links.sized) in
+    let e : tested.behind ≡ behinds ns h = ap (λ (n : Node). n.behind) (get_or_read ns h tested inside is_tested blank) in
+    let t = first-timer (length ns) h (behinds ns) (befores ns) (buckets ns) placed.rank placed.links low (λ own. ne (e ∙ own)) in
+    rw (get_or_read ns h read inside is_read blank) (record { past = t.past; within = t.within; held = omega (arith, t.bucket) }, t.bucket)
 
 -- before the wheel's moment only the due list has timers that may be due
 pub any-later : (ns : List Node) (ws : List ℕ) (w now i : ℕ) → IsPlaced ns ws w 2048 → IsTimer ns i → now < w → (buckets ns i ≡ 2048 → now < moments ns i) → now < moments ns i

@@ -1,12 +1,14 @@
 -- One turn of the loop that empties the bucket that was reached.
-use Rattle.std.proofs.Common.{◌≡◌, ◌≢◌, ℕ, ◌<◌, ◌≤◌, List, length, get_or, sym, ap, ◌∙◌, subst, arith}
-use Rattle.std.proofs.lemmas.List.{get_or_read}
-use Rattle.moka_wheel.specs.Nodes.{Node, blank, befores, behinds, buckets, moments, detached, attached}
+use Rattle.std.proofs.Common.{◌≡◌, ◌≢◌, ℕ, ◌<◌, ◌≤◌, List, length, get_or, nat_eq, sym, ap, ◌∙◌, subst, arith}
+use Rattle.std.proofs.lemmas.Bool.{eq-eqb, ne_eqb}
+use Rattle.moka_wheel.specs.Nodes.{Node, befores, behinds, buckets, moments, detached, attached}
 use Rattle.moka_wheel.specs.Levels.{IsNear, IsHome, bit_of}
+use Rattle.moka_wheel.specs.declared.nodes.Entry.{Entry}
 use Rattle.moka_wheel.specs.Buckets.{IsTimer, IsPlaced, Keeps}
 use Rattle.moka_wheel.proofs.Moves.{home-lower}
-use Rattle.moka_wheel.proofs.Sound.{detach-placed, attach-placed, first-is}
-use Rattle.moka_wheel.proofs.Frames.{Removes, detach-removes, attach-adds, move-keeps, count, count-detached, count-attached}
+use Rattle.moka_wheel.proofs.Sound.{bucket, detached-fields, attached-fields, detach-placed, attach-placed, behind-read}
+use Rattle.moka_wheel.proofs.Frames.{Removes, detach-removes, attach-adds, move-keeps}
+use Rattle.moka_wheel.proofs.Counts.{count_to, count-more}
 
 -- the head of each list has a last node
 pub last-within : (ns : List Node) (ws : List ℕ) (w r h : ℕ) → IsPlaced ns ws w r → h < 2049 → befores ns h < length ns
@@ -45,21 +47,12 @@ pub record First (ns : List Node) (ws : List ℕ) (w r s : ℕ) : Type 0 where
   pub leaves : Leaves ns ws w r s
   pub bucket : buckets ns s ≡ r
 
-pub first-of : (ns : List Node) (ws : List ℕ) (w r s : ℕ) → IsPlaced ns ws w r → r < 2048 → s ≡ behinds ns r → behinds ns r ≢ r → First ns ws w r s
-first-of ns ws w r s placed low e ne =
-    let f = first-is ns ws w r r placed (omega arith) ne in
-    record {
-      leaves = leaves ns ws w r s placed (subst (IsTimer ns) (sym e) f.0);
-      bucket = ap (buckets ns) e ∙ f.1;
-    }
-
--- the same of what the loop reads: its test and the slot behind the head
+-- by what the loop reads: its test and the slot behind the head
 pub first-read : (ns : List Node) (ws : List ℕ) (w r : ℕ) (tested read : Node) → IsPlaced ns ws w r → r < 2048
     → tested ≡ get_or ns r tested → read ≡ get_or ns r read → tested.behind ≢ r → First ns ws w r read.behind
 first-read ns ws w r tested read placed low t u ne =
-    let inside : r < length ns = omega (arith, placed.links.sized) in
-    first-of ns ws w r read.behind placed low (ap (λ (n : Node). n.behind) (get_or_read ns r read inside u blank))
-    (λ e. ne (ap (λ (n : Node). n.behind) (get_or_read ns r tested inside t blank) ∙ e))
+    let f = behind-read ns ws w r r tested read placed (omega arith) t u ne in
+    record { leaves = leaves ns ws w r read.behind placed f.0; bucket = f.1 }
 
 -- the timer comes to the list where its moment belongs now
 pub record Moved (ns os : List Node) (vs : List ℕ) (w r : ℕ) : Type 0 where
@@ -76,15 +69,22 @@ moved ns ws vs w r s h l home here others =
       keeps = move-keeps ns ms (attached ms s h) s l.timer l.removes (attach-adds ms ws w r s h l.placed l.timer.past l.slot_in home.within);
     }
 
+-- how many nodes name a bucket
+abbrev pub count : ℕ → List Node → ℕ
+count k ns = count_to (λ i. nat_eq (buckets ns i) k) (length ns)
+
 -- and the bucket has one less
 pub fewer : (ns : List Node) (ws : List ℕ) (w r s h : ℕ) → IsPlaced ns ws w r → r < 2048 → First ns ws w r s → IsHome w (moments (detached ns s) s) h
     → count r (attached (detached ns s) s h) < count r ns
 fewer ns ws w r s h placed low first home =
     let ms = detached ns s in
+    let os = attached ms s h in
     let l = first.leaves in
+    let d = detached-fields ns ws w r s placed l.timer in
+    let a = attached-fields ms ws w r s h l.placed l.slot_in home.within in
     let near = subst (λ k. IsNear w (moments ns s) k) first.bucket (placed.near s l.timer (omega (arith, first.bucket))) in
     let home_was : IsHome w (moments ns s) h = subst (λ a. IsHome w a h) l.removes.moment home in
-    let other : h ≢ r = λ e. home-lower w (moments ns s) r h (placed.here low) near home_was (omega arith) e in
-    let one = count-detached r ns s (omega arith) l.timer.within l.before_in l.behind_in first.bucket in
-    let same = count-attached r ms s h l.slot_in (omega (arith, home.within, l.heads)) (l.last_in h home.within) (λ e. omega (arith, l.free, e)) other in
-    omega (arith, one, same)
+    let other : buckets os s ≢ r = λ e. home-lower w (moments ns s) r h (placed.here low) near home_was (omega (arith, e, ap bucket a.value_at)) (sym (ap bucket a.value_at) ∙ e) in
+    let one = count-more (λ i. nat_eq (buckets os i) r) (λ i. nat_eq (buckets ns i) r) s (length ns) l.timer.within
+    (ne_eqb _ _ other) (eq-eqb _ _ first.bucket) (λ i ne. ap (λ (e : Entry). nat_eq e.bucket r) (sym (a.value i ne ∙ d.value i ne))) in
+    omega (arith, one, ap (count_to (λ i. nat_eq (buckets os i) r)) (a.size ∙ d.size))

@@ -1,67 +1,15 @@
 -- The walk along the due list.
 use Rattle.std.proofs.Common.{◌≡◌, ◌≢◌, ℕ, zero, suc, ◌+◌, ◌<◌, ◌≤◌, ◌⊎◌, Bool, true, false, cond, nat_eq, List, length, inl, inr, refl, sym, ap, ◌∙◌, subst, arith}
-use Rattle.std.proofs.lemmas.Bool.{cases_eq, cases_lt, cases_Bool, cond-true, cond-false, eq-eqb, ne_eqb, false≢true}
+use Rattle.std.proofs.lemmas.Bool.{cases_lt, cases_Bool, false≢true}
+use Rattle.std.proofs.lemmas.Bool.Decides.{nat_tests}
 use Rattle.moka_wheel.specs.Nodes.{Node, befores, behinds, buckets, moments}
 use Rattle.moka_wheel.specs.Buckets.{IsTimer, IsPlaced}
+use Rattle.moka_wheel.proofs.Counts.{count_to, count-fewer, count-none, count-more}
 use Rattle.moka_wheel.proofs.Rings.{behind-other}
 
-abbrev pub one_if : Bool → ℕ
-one_if b = cond b 1 0
-
--- how many numbers below n pass a test
-abbrev pub count_to : (ℕ → Bool) → ℕ → ℕ
-count_to f zero = 0
-count_to f (suc n) = one_if (f n) + count_to f n
-
-one : (b : Bool) → one_if b ≤ 1
-one true = omega arith
-one false = omega arith
-
-count-at_most : (f : ℕ → Bool) (n : ℕ) → count_to f n ≤ n
-count-at_most f zero = omega arith
-count-at_most f (suc n) = omega (arith, count-at_most f n, one (f n))
-
--- where a number fails, fewer pass
-pub count-fewer : (f : ℕ → Bool) (n j : ℕ) → j < n → f j ≡ false → count_to f n < n
-count-fewer f zero j l e = omega arith
-count-fewer f (suc n) j l e = elim (cases_eq j n) as (λ _. count_to f (suc n) < suc n) [
-  | inl same ↦ let none : one_if (f n) ≡ 0 = cond-false (f n) 1 0 (ap f (sym same) ∙ e) in omega (arith, count-at_most f n, none)
-  | inr ne ↦ omega (arith, count-fewer f n j (omega arith) e, one (f n))
-]
-
-count-none : (n : ℕ) → count_to (λ _. false) n ≡ 0
-count-none zero = refl
-count-none (suc n) = omega (arith, count-none n)
-
-with_one : (ℕ → Bool) → ℕ → ℕ → Bool
+-- the test that one more number passes
+abbrev with_one : (ℕ → Bool) → ℕ → ℕ → Bool
 with_one f s i = cond (nat_eq i s) true (f i)
-
-with-here : (f : ℕ → Bool) (s i : ℕ) → i ≡ s → with_one f s i ≡ true
-unfolding with_one
-with-here f s i e = cond-true (nat_eq i s) true (f i) (eq-eqb i s e)
-
-with-other : (f : ℕ → Bool) (s i : ℕ) → i ≢ s → with_one f s i ≡ f i
-unfolding with_one
-with-other f s i ne = cond-false (nat_eq i s) true (f i) (ne_eqb i s ne)
-
-count-same : (f g : ℕ → Bool) (n : ℕ) → ((i : ℕ) → i < n → f i ≡ g i) → count_to f n ≡ count_to g n
-count-same f g zero e = refl
-count-same f g (suc n) e =
-    let here : one_if (f n) ≡ one_if (g n) = ap one_if (e n (omega arith)) in
-    omega (arith, here, count-same f g n (λ i l. e i (omega arith)))
-
-count-with : (f : ℕ → Bool) (s n : ℕ) → s < n → f s ≡ false → count_to (with_one f s) n ≡ count_to f n + 1
-count-with f s zero l e = absurd (omega arith)
-count-with f s (suc n) l e = elim (cases_eq s n) as (λ _. count_to (with_one f s) (suc n) ≡ count_to f (suc n) + 1) [
-  | inl same ↦
-      let now : one_if (with_one f s n) ≡ 1 = cond-true (with_one f s n) 1 0 (with-here f s n (sym same)) in
-      let was : one_if (f n) ≡ 0 = cond-false (f n) 1 0 (ap f (sym same) ∙ e) in
-      let rest = count-same (with_one f s) f n (λ i k. with-other f s i (λ z. omega arith)) in
-      omega (arith, now, was, rest)
-  | inr ne ↦
-      let here : one_if (with_one f s n) ≡ one_if (f n) = ap one_if (with-other f s n (λ z. ne (sym z))) in
-      omega (arith, here, count-with f s n (omega arith) e)
-]
 
 pub record IsDue (ns : List Node) (i : ℕ) : Type 0 where
   pub timer : IsTimer ns i
@@ -116,52 +64,30 @@ walk-step ns ws w now slot steps placed walk ne late =
     let held : buckets ns slot < 2049 = omega (arith, walk.bucket) in
     let t = placed.links.on slot walk.within held in
     let seen = with_one walk.seen slot in
-    let was : (i : ℕ) → seen i ≡ true → (i ≡ slot) ⊎ (walk.seen i ≡ true) = λ i e. elim (cases_eq i slot) as (λ _. (i ≡ slot) ⊎ (walk.seen i ≡ true)) [
-      | inl same ↦ inl same
-      | inr other ↦ inr (sym (with-other walk.seen slot i other) ∙ e)
-    ] in
-    let keep : (i : ℕ) → walk.seen i ≡ true → seen i ≡ true = λ i e. elim (cases_eq i slot) as (λ _. seen i ≡ true) [
-      | inl same ↦ with-here walk.seen slot i same
-      | inr other ↦ with-other walk.seen slot i other ∙ e
-    ] in
+    let was : (i : ℕ) → seen i ≡ true → (i ≡ slot) ⊎ (walk.seen i ≡ true) = λ i e. grind (arith, nat_tests) in
+    let keep : (i : ℕ) → walk.seen i ≡ true → seen i ≡ true = λ i e. grind (arith, nat_tests) in
+    let here : seen slot ≡ true = grind (arith, nat_tests) in
+    let other : (i : ℕ) → i ≢ slot → seen i ≡ walk.seen i = λ i ne. grind (arith, nat_tests) in
     let new : walk.seen slot ≡ false = walk.fresh past in
     record {
       seen = seen;
       within = t.within;
       bucket = t.same ∙ walk.bucket;
-      back = λ i d e l. elim (was i e) as (λ _. seen (befores ns i) ≡ true) [
-        | inl same ↦ keep (befores ns i) (elim walk.from as (λ _. walk.seen (befores ns i) ≡ true) [
-          | inl head ↦ absurd (omega (arith, ap (befores ns) same, head, l))
-          | inr s ↦ ap (λ x. walk.seen (befores ns x)) same ∙ s
-        ])
-        | inr s ↦ keep (befores ns i) (walk.back i d s l)
-      ];
-      next = λ i d o. elim o as (λ _. (seen i ≡ true) ⊎ (i ≡ behinds ns slot)) [
-        | inl e ↦ elim (walk.next i d (inl e)) as (λ _. (seen i ≡ true) ⊎ (i ≡ behinds ns slot)) [
-          | inl s ↦ inl (keep i s)
-          | inr same ↦ inl (with-here walk.seen slot i same)
-        ]
-        | inr e ↦ elim (was (befores ns i) e) as (λ _. (seen i ≡ true) ⊎ (i ≡ behinds ns slot)) [
-          | inl same ↦ inr (sym (placed.links.back i d.timer.within d.timer.held).back ∙ ap (behinds ns) same)
-          | inr s ↦ elim (walk.next i d (inr s)) as (λ _. (seen i ≡ true) ⊎ (i ≡ behinds ns slot)) [
-            | inl x ↦ inl (keep i x)
-            | inr same ↦ inl (with-here walk.seen slot i same)
-          ]
-        ]
-      ];
+      back = λ i d e l. grind (arith, was i e, walk.from, walk.back i d, keep (befores ns i));
+      next = λ i d o. grind (arith, o, was (befores ns i), walk.next i d, keep i, here, (placed.links.back i d.timer.within d.timer.held).back);
       later = λ i d e. elim (was i e) as (λ _. now < moments ns i) [
         | inl same ↦ subst (λ x. now < moments ns x) (sym same) late
         | inr s ↦ walk.later i d s
       ];
       fresh = λ l.
           let d : IsDue ns (behinds ns slot) = record { timer = record { past = l; within = t.within; held = omega (arith, t.same, held) }; bucket = t.same ∙ walk.bucket } in
-          let other : behinds ns slot ≢ slot = behind-other (length ns) (behinds ns) (befores ns) (buckets ns) placed.rank placed.links slot past walk.within held in
-          with-other walk.seen slot (behinds ns slot) other ∙ elim (cases_Bool (walk.seen (behinds ns slot))) as (λ _. walk.seen (behinds ns slot) ≡ false) [
+          let apart : behinds ns slot ≢ slot = behind-other (length ns) (behinds ns) (befores ns) (buckets ns) placed.rank placed.links slot past walk.within held in
+          other (behinds ns slot) apart ∙ elim (cases_Bool (walk.seen (behinds ns slot))) as (λ _. walk.seen (behinds ns slot) ≡ false) [
             | inl e ↦ absurd (false≢true (sym new ∙ ap walk.seen (sym t.back) ∙ walk.back (behinds ns slot) d e (omega (arith, t.back))))
             | inr e ↦ e
           ];
-      from = inr (ap seen t.back ∙ with-here walk.seen slot slot refl);
-      counted = count-with walk.seen slot (length ns) walk.within new ∙ ap (λ n. n + 1) walk.counted;
+      from = inr (ap seen t.back ∙ here);
+      counted = count-more walk.seen seen slot (length ns) walk.within new here other ∙ ap (λ n. n + 1) walk.counted;
     }
 
 -- what is due was seen, where the walk is back at the head

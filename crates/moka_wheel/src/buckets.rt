@@ -31,6 +31,14 @@ fn start_of(moment: u64, bucket: u32) -> u64
     (above * 256 + u64::from(bucket % 256)) << (8 * level)
 }
 
+/// How many moments a bucket has.
+fn span_of(bucket: u32) -> u64
+    requires { bucket < 2048 }
+    ensures { result ≡ 2 ^ (8 * (bucket / 256)) }
+{
+    1 << (8 * (bucket / 256))
+}
+
 impl Buckets {
     /// The heads of the lists, round each of which its list closes, with no timer.
     pub(crate) fn new(alloc: Global) -> Result<Self, AllocError>
@@ -93,8 +101,8 @@ impl Buckets {
         unmark(&mut self.occupied, bucket);
     }
 
-    /// Moves the wheel to the start of the first marked bucket and spreads it. Where none starts up to `now`,
-    /// moves the wheel to `now`; the answer is then false.
+    /// Moves the wheel to the end of the first marked bucket, at most to `now`, and spreads it. If none starts up to
+    /// `now`, moves the wheel to `now`; the answer is then false.
     fn step(&mut self, now: u64) -> bool
         requires placed { AreBuckets self.old 2048 }
         requires late { self.old.moment ≤ now }
@@ -115,7 +123,7 @@ impl Buckets {
             self.moment = now;
             return false;
         }
-        self.moment = start;
+        self.moment = start + (now - start).min(span_of(bucket) - 1);
         self.spread(bucket);
         true
     }

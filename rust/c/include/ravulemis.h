@@ -8,7 +8,7 @@
    Every function but `ravulemis_message` answers a code of `enum ravulemis_code`. One below 0 is a wrong call, which
    has done nothing, or a fault. A pointer that is neither null nor from `ravulemis_create` cannot be told apart.
 
-   Compile against the header of the very library: structs grow with new settings. */
+   Compile against the header that came with the library: structs grow with new settings. */
 
 #ifndef RAVULEMIS_H
 #define RAVULEMIS_H
@@ -28,7 +28,8 @@ enum ravulemis_code {
   RAVULEMIS_NOT_FOUND = 1,
   /* The buffer is too small. Its first bytes are filled, and the whole length is told. */
   RAVULEMIS_TRUNCATED = 2,
-  /* A pointer is null that must not be, a key is empty, or a setting is none of those named below. */
+  /* A pointer is null that must not be, a key is empty, a length exceeds PTRDIFF_MAX, or a setting is none of those
+     named below. */
   RAVULEMIS_BAD_ARGUMENT = -1,
   /* The cache was destroyed. */
   RAVULEMIS_DESTROYED = -2,
@@ -47,15 +48,16 @@ enum ravulemis_cause {
   RAVULEMIS_SIZE = 3
 };
 
-/* Is lent key, value and cause of each value that leaves, until it returns, by the thread whose call found that or by
-   another that is notifying already. It may call the cache, but must not put back each value that leaves with
-   RAVULEMIS_SIZE: another leaves for it, so the call never ends. It must not throw or jump out. */
+/* Is lent key, value and cause of each value that leaves, until it returns, by the thread by whose call it left or by
+   another that is notifying already. It may call the cache, but must not wait for another thread that does: if 1,024
+   notices are pending, that one may wait for it. Nor may it put back each value that leaves with RAVULEMIS_SIZE:
+   another leaves for it, so the call never ends. It must not throw or jump out. */
 typedef void (*ravulemis_listener)(void *context, const void *key, size_t key_length, const void *value,
                                    size_t value_length, int32_t cause);
 
-/* What a cache is created with. With all bytes 0 it has no bound, which `ravulemis_settings_default` gives too. Settings
-   of Rust's builder that C has not: a name, an expiry for single entries, a weigher of the caller's own, predicates, and
-   a hasher. Keys are hashed with a random seed. */
+/* What a cache is created with. With all bytes 0 it has no bound, which `ravulemis_settings_default` gives too. Rust's
+   builder has more, which C has not: a name, an expiry for single entries, a weigher of the caller's own, predicates,
+   and a hasher. Keys are hashed with a random seed. */
 typedef struct ravulemis_settings {
   /* Whether there is a bound, 0 or 1, and the greatest total weight; with 0 nothing is kept. */
   int32_t is_bounded;
@@ -86,11 +88,11 @@ typedef struct ravulemis_stats {
 int32_t ravulemis_settings_default(ravulemis_settings *settings);
 
 /* Makes an empty cache, which the caller destroys. `settings` is read in the call alone.
-   Errors: RAVULEMIS_BAD_ARGUMENT; RAVULEMIS_FAULT where there is no memory for the initial capacity. */
+   Errors: RAVULEMIS_BAD_ARGUMENT; RAVULEMIS_FAULT if there is no memory for the initial capacity. */
 int32_t ravulemis_create(const ravulemis_settings *settings, ravulemis_cache **cache);
 
-/* Lets all entries go; the listener is not notified of them. A few bytes stay, by which a later call for the cache is
-   told. Errors: RAVULEMIS_BAD_ARGUMENT, and RAVULEMIS_DESTROYED for the second call. */
+/* Drops all entries; the listener is not notified of them. A few bytes stay, by which a later call for the cache is
+   recognised. Errors: RAVULEMIS_BAD_ARGUMENT, and RAVULEMIS_DESTROYED for the second call. */
 int32_t ravulemis_destroy(ravulemis_cache *cache);
 
 /* Puts a copy of a value under a copy of a key of at least one byte. A value of no bytes may have a null pointer.
@@ -98,13 +100,13 @@ int32_t ravulemis_destroy(ravulemis_cache *cache);
 int32_t ravulemis_insert(ravulemis_cache *cache, const void *key, size_t key_length, const void *value,
                          size_t value_length);
 
-/* Copies the key's value to a buffer of `room` bytes, as much as fits, and tells its whole length where `value_length`
-   is not null. The buffer may be null where `room` is 0. Answers RAVULEMIS_OK, RAVULEMIS_TRUNCATED or
+/* Copies the key's value to a buffer of `room` bytes, as much as fits, and tells its whole length if `value_length`
+   is not null. The buffer may be null if `room` is 0. Answers RAVULEMIS_OK, RAVULEMIS_TRUNCATED or
    RAVULEMIS_NOT_FOUND. Errors: RAVULEMIS_BAD_ARGUMENT, RAVULEMIS_DESTROYED, RAVULEMIS_FAULT. */
 int32_t ravulemis_get(ravulemis_cache *cache, const void *key, size_t key_length, void *buffer, size_t room,
                       size_t *value_length);
 
-/* Answers RAVULEMIS_OK or RAVULEMIS_NOT_FOUND; it counts as no read.
+/* Answers RAVULEMIS_OK if there is a value under the key, else RAVULEMIS_NOT_FOUND. It does not count as a read.
    Errors: RAVULEMIS_BAD_ARGUMENT, RAVULEMIS_DESTROYED, RAVULEMIS_FAULT. */
 int32_t ravulemis_contains(ravulemis_cache *cache, const void *key, size_t key_length);
 
@@ -113,10 +115,12 @@ int32_t ravulemis_contains(ravulemis_cache *cache, const void *key, size_t key_l
 int32_t ravulemis_remove(ravulemis_cache *cache, const void *key, size_t key_length, void *buffer, size_t room,
                          size_t *value_length);
 
-/* Lets the key's value go, if there is one. Errors: RAVULEMIS_BAD_ARGUMENT, RAVULEMIS_DESTROYED, RAVULEMIS_FAULT. */
+/* Takes the key's value out and drops it, if there is one.
+   Errors: RAVULEMIS_BAD_ARGUMENT, RAVULEMIS_DESTROYED, RAVULEMIS_FAULT. */
 int32_t ravulemis_invalidate(ravulemis_cache *cache, const void *key, size_t key_length);
 
-/* Hides all values that are there. Errors: RAVULEMIS_BAD_ARGUMENT, RAVULEMIS_DESTROYED, RAVULEMIS_FAULT. */
+/* Hides all values that are there, which leave later.
+   Errors: RAVULEMIS_BAD_ARGUMENT, RAVULEMIS_DESTROYED, RAVULEMIS_FAULT. */
 int32_t ravulemis_invalidate_all(ravulemis_cache *cache);
 
 /* Does what calls left for later: what has expired, was invalidated or exceeds the capacity leaves.

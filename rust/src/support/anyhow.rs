@@ -8,20 +8,6 @@ pub struct AnyError(String);
 
 pub type Result<T, E = AnyError> = std::result::Result<T, E>;
 
-impl AnyError {
-    pub fn new(text: String) -> Self {
-        AnyError(text)
-    }
-}
-
-/// Returns an error of this text.
-macro_rules! bail {
-    ($($text:tt)+) => {
-        return Err($crate::support::anyhow::AnyError::new(format!($($text)+)))
-    };
-}
-pub(crate) use bail;
-
 impl<E: Error> From<E> for AnyError {
     fn from(error: E) -> Self {
         AnyError(error.to_string())

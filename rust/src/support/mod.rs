@@ -66,7 +66,7 @@ pub mod clone {
 
     impl<T: Clone> TryClone for T {}
 
-    /// The clone, or a panic where it was refused.
+    /// The clone, or a panic if it was refused.
     pub fn unless_refused<T>(clone: Result<T, AllocError>) -> T {
         clone.unwrap_or_else(|refused| std::panic::panic_any(refused))
     }

@@ -54,7 +54,7 @@ impl<T> Vec<T> {
         Ok(())
     }
 
-    /// As `push`, where there is room.
+    /// As `push`, if there is room.
     #[inline]
     pub fn push_reserved(&mut self, value: T) {
         debug_assert!(self.0.len() < self.0.capacity());

@@ -14,7 +14,7 @@ use std::sync::atomic::AtomicU64;
 use std::sync::{Arc, Mutex};
 use std::time::{Duration, Instant};
 
-// At least so many entries are a shard's share where the builder chooses the shards.
+// At least so many entries are a shard's share if the builder chooses the shards.
 const LEAST_SHARE: u64 = 1024;
 // At most so many shards are chosen by the builder, and asked of it.
 const MOST_CHOSEN: u64 = 64;
@@ -125,7 +125,7 @@ where
     /// An empty cache.
     ///
     /// # Panics
-    /// Where there is no memory for the initial capacity.
+    /// If there is no memory for the initial capacity.
     ///
     /// ```
     /// let cache = ravulemis::sync::CacheBuilder::new(100).build();
@@ -135,10 +135,10 @@ where
         self.build_with_hasher(RandomState::new())
     }
 
-    /// An empty cache whose keys are hashed by this.
+    /// An empty cache whose keys are hashed by this hasher.
     ///
     /// # Panics
-    /// Where there is no memory for the initial capacity.
+    /// If there is no memory for the initial capacity.
     ///
     /// ```
     /// use std::hash::RandomState;

@@ -8,7 +8,8 @@ use std::mem::ManuallyDrop;
 use std::sync::atomic::{AtomicUsize, Ordering};
 use std::sync::{Mutex, MutexGuard, TryLockError};
 
-/// A shard, what is being made for it, and what its listener is still to be told. No two shards share a cache line.
+/// A shard, what is being made for it, and the notices that its listener still waits for. No two shards share a cache
+/// line.
 #[repr(align(128))]
 pub(super) struct Place<K: 'static, V> {
     pub shard: Mutex<Shard<K, V>>,
@@ -41,7 +42,7 @@ impl<K: Eq + Hash, V: Clone> Places<K, V> {
         }
     }
 
-    // Lets what is due in the next shard leave, where no calls for it do. One whose lock is held has a call.
+    // Lets what is due in the next shard leave, if no calls for it do. One whose lock is held has a call.
     fn visit_next(&self) {
         let next = self.visited.fetch_add(1, Ordering::Relaxed) % self.all.len();
         let mut calls = self.calls(&self.all[next]);
@@ -54,8 +55,8 @@ impl<K: Eq + Hash, V: Clone> Places<K, V> {
     }
 }
 
-/// Calls for a shard. At their end, which may be a panic, the listener is told of what left by them; without a listener
-/// that is dropped. No lock of the cache is held then.
+/// Calls for a shard. At their end, which may be a panic, the listener is notified of what left by them; without a
+/// listener that is dropped. No lock of the cache is held then.
 pub(super) struct Calls<'a, K: Eq + Hash + 'static, V: Clone> {
     places: &'a Places<K, V>,
     place: &'a Place<K, V>,
@@ -65,7 +66,7 @@ pub(super) struct Calls<'a, K: Eq + Hash + 'static, V: Clone> {
 
 /// What is still to be done when the lock of a shard is released.
 struct Rest<K, V> {
-    // The listener is to be told.
+    // The listener is to be notified.
     is_telling: bool,
     // Another shard is to be visited.
     is_visiting: bool,

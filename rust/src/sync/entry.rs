@@ -61,7 +61,7 @@ where
         OwnedKeyEntrySelector { cache: self, hash, key }
     }
 
-    /// As [`entry`](Self::entry), by a borrowed form of the key; an owned one is made where a value is to be made, and in
+    /// As [`entry`](Self::entry), by a borrowed form of the key. An owned one is made if a value is to be made, and by
     /// each of the calls `and_..`.
     ///
     /// ```
@@ -78,7 +78,7 @@ where
         RefKeyEntrySelector { cache: self, hash, key }
     }
 
-    // The entry of a key, with the value made where it is missing or to be replaced.
+    // The entry of a key, with the value made if it is missing or to be replaced.
     fn entry_loaded(
         &self,
         hash: u64,
@@ -141,7 +141,7 @@ fn entry_of<K, V>((key, is_replaced, outcome): (Arc<K>, bool, Outcome<V>)) -> Op
 /// The calls that both selectors have.
 macro_rules! calls {
     () => {
-        /// The entry of the key, into which this value is put where there was none.
+        /// The key's entry; if there is none, this value is put there.
         ///
         /// ```
         /// let cache = ravulemis::sync::Cache::new(100);
@@ -152,7 +152,7 @@ macro_rules! calls {
             self.or_insert_with(|| default)
         }
 
-        /// The entry of the key, into which the default value is put where there was none.
+        /// The key's entry; if there is none, the default value is put there.
         ///
         /// ```
         /// let cache = ravulemis::sync::Cache::<u32, u32>::new(100);
@@ -166,7 +166,7 @@ macro_rules! calls {
             self.or_insert_with(V::default)
         }
 
-        /// The entry of the key, whose value is made where there was none, as by `get_with`.
+        /// The key's entry; if there is none, a value is made and put there, as by `get_with`.
         ///
         /// ```
         /// let cache = ravulemis::sync::Cache::new(100);
@@ -177,7 +177,8 @@ macro_rules! calls {
             self.or_insert_with_if(init, |_| false)
         }
 
-        /// The entry of the key, whose value is made where there was none, or one that the test says is to be replaced.
+        /// The key's entry; if there is none, or the test says that its value is to be replaced, one is made and put
+        /// there.
         ///
         /// ```
         /// let cache = ravulemis::sync::Cache::new(100);
@@ -204,7 +205,8 @@ macro_rules! calls {
             }
         }
 
-        /// The entry of the key, whose value is made where there was none; `None` where the maker gives none.
+        /// The key's entry; if there is none, a value is made and put there, or `None` is answered if the maker gives
+        /// none.
         ///
         /// ```
         /// let cache = ravulemis::sync::Cache::new(100);
@@ -221,10 +223,10 @@ macro_rules! calls {
             entry_of(cache.entry_loaded(hash, self.into_shared(), kind, |_| false, make))
         }
 
-        /// The entry of the key, whose value is made where there was none.
+        /// The key's entry; if there is none, a value is made and put there.
         ///
         /// # Errors
-        /// The maker's, which all share that waited for it with an error of the same type.
+        /// The maker's, shared by all that waited for it with the same type of error.
         ///
         /// ```
         /// let cache = ravulemis::sync::Cache::<u32, u32>::new(100);
@@ -247,8 +249,8 @@ macro_rules! calls {
             Ok(always(entry_of((key, is_replaced, outcome))))
         }
 
-        /// Puts the value there that the closure makes of the entry, if there is one. No other call of this kind for
-        /// the key is made meanwhile. The closure may call the cache, but not so for its own key.
+        /// Puts the value that the closure makes of the entry, or of `None` if there is none. No other call of this
+        /// kind for the key is made meanwhile. The closure may call the cache, but none of this kind for its own key.
         ///
         /// ```
         /// let cache = ravulemis::sync::Cache::new(100);
@@ -263,8 +265,8 @@ macro_rules! calls {
             always(answer.into_entry())
         }
 
-        /// Puts, removes or leaves the entry as the closure says of what is there. No other call of this kind for the
-        /// key is made meanwhile. The closure may call the cache, but not so for its own key.
+        /// Puts a value, removes the entry or leaves it, as the closure answers of what is there. No other call of this
+        /// kind for the key is made meanwhile. The closure may call the cache, but none of this kind for its own key.
         ///
         /// ```
         /// use ravulemis::ops::compute::{CompResult, Op};

@@ -1,4 +1,4 @@
-//! Values that are made where they are not there.
+//! Values that are made if they are missing.
 
 use super::Cache;
 use crate::making::{Outcome, Wanted};
@@ -65,7 +65,7 @@ where
     V: Clone + Send + Sync + 'static,
     S: BuildHasher,
 {
-    /// The value of a key, made and put there by one caller where it is missing or to be replaced.
+    /// The value of a key, made and put there by one caller if it is missing or to be replaced.
     pub(super) fn load(
         &self,
         hash: u64,
@@ -79,7 +79,7 @@ where
         let mut calls = self.0.places.calls(place);
         let wanted = Wanted { hash, key, kind };
         let key = &wanted.key;
-        place.makers.once(&wanted, || {
+        place.makers.once(&wanted, |making| {
             // Another may have put it there since the caller looked.
             let there = calls.make(|shard| shard.peek(hash, &|kept| *kept == **key));
             if let Some((_, value)) = there
@@ -94,7 +94,12 @@ where
             let outcome = make();
             if let Outcome::Made { value, .. } = &outcome {
                 let value = value.clone();
-                calls.make(|shard| shard.insert(hash, Arc::clone(key), value));
+                calls.make(|shard| {
+                    let unused = shard.insert(hash, Arc::clone(key), value);
+                    // Who asks later looks for it: it may have been taken out again.
+                    making.close();
+                    unused
+                });
                 self.0.loads.fetch_add(1, Ordering::Relaxed);
                 load.is_done = true;
             }
@@ -112,7 +117,7 @@ where
         }
     }
 
-    // The same by a borrowed form of the key, of which an owned one is made only where the value is missing.
+    // The same by a borrowed form of the key, of which an owned one is made only if the value is missing.
     fn get_or_load_by_ref<Q>(&self, key: &Q, kind: TypeId, make: impl FnOnce() -> Outcome<V>) -> Outcome<V>
     where
         K: Borrow<Q>,
@@ -157,7 +162,7 @@ where
     }
 
     /// As [`get_with`](Self::get_with), by a maker that may give no value: then nothing is put there, and all that
-    /// waited are told `None`.
+    /// waited get `None`.
     ///
     /// ```
     /// let cache = ravulemis::sync::Cache::new(100);
@@ -188,7 +193,7 @@ where
     /// As [`get_with`](Self::get_with), by a maker that may fail: then nothing is put there.
     ///
     /// # Errors
-    /// The maker's, which all share that waited for it with an error of the same type.
+    /// The maker's, shared by all that waited for it with the same type of error.
     ///
     /// ```
     /// let cache = ravulemis::sync::Cache::<u32, u32>::new(100);

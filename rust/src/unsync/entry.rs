@@ -33,7 +33,7 @@ impl<'a, K: Eq + Hash + Sync + 'static, V: Clone + 'static, S: BuildHasher> Entr
         self.cache.shard.scan(self.hash, &self.key)
     }
 
-    /// The entry of the key, into which this value is put where there was none.
+    /// The key's entry; if there is none, this value is put there.
     ///
     /// ```
     /// let mut cache = ravulemis::unsync::Cache::new(100);
@@ -43,7 +43,7 @@ impl<'a, K: Eq + Hash + Sync + 'static, V: Clone + 'static, S: BuildHasher> Entr
         self.or_insert_with(|| default)
     }
 
-    /// The entry of the key, into which the default value is put where there was none.
+    /// The key's entry; if there is none, the default value is put there.
     ///
     /// ```
     /// let mut cache = ravulemis::unsync::Cache::<u32, u32>::new(100);
@@ -56,7 +56,7 @@ impl<'a, K: Eq + Hash + Sync + 'static, V: Clone + 'static, S: BuildHasher> Entr
         self.or_insert_with(V::default)
     }
 
-    /// The entry of the key, whose value is made where there was none.
+    /// The key's entry; if there is none, a value is made and put there.
     ///
     /// ```
     /// let mut cache = ravulemis::unsync::Cache::new(100);
@@ -68,7 +68,7 @@ impl<'a, K: Eq + Hash + Sync + 'static, V: Clone + 'static, S: BuildHasher> Entr
         entry
     }
 
-    /// The entry of the key, whose value is made where there was none, or one that the test says is to be replaced.
+    /// The key's entry; if there is none, or the test says that its value is to be replaced, one is made and put there.
     ///
     /// ```
     /// let mut cache = ravulemis::unsync::Cache::new(100);
@@ -84,7 +84,7 @@ impl<'a, K: Eq + Hash + Sync + 'static, V: Clone + 'static, S: BuildHasher> Entr
         cache.with(|shard| shard.replace_with(hash, key, init))
     }
 
-    /// The entry of the key, whose value is made where there was none; `None` where the maker gives none.
+    /// The key's entry; if there is none, a value is made and put there, or `None` is answered if the maker gives none.
     ///
     /// ```
     /// let mut cache = ravulemis::unsync::Cache::new(100);
@@ -95,7 +95,7 @@ impl<'a, K: Eq + Hash + Sync + 'static, V: Clone + 'static, S: BuildHasher> Entr
         self.or_try_insert_with(|| init().ok_or(())).ok()
     }
 
-    /// The entry of the key, whose value is made where there was none.
+    /// The key's entry; if there is none, a value is made and put there.
     ///
     /// # Errors
     /// The maker's: then nothing is put there.
@@ -113,7 +113,7 @@ impl<'a, K: Eq + Hash + Sync + 'static, V: Clone + 'static, S: BuildHasher> Entr
         cache.with(|shard| shard.try_get_with(hash, key, init))
     }
 
-    /// Puts the value there that the closure makes of the entry, if there is one.
+    /// Puts the value that the closure makes of the entry, or of `None` if there is none.
     ///
     /// ```
     /// let mut cache = ravulemis::unsync::Cache::new(100);
@@ -128,7 +128,7 @@ impl<'a, K: Eq + Hash + Sync + 'static, V: Clone + 'static, S: BuildHasher> Entr
         entry.unwrap_or_else(|| unreachable!("an entry was put there"))
     }
 
-    /// Puts, removes or leaves the entry as the closure says of what is there.
+    /// Puts a value, removes the entry or leaves it, as the closure answers of what is there.
     ///
     /// ```
     /// use ravulemis::ops::compute::{CompResult, Op};

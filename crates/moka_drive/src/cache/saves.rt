@@ -8,7 +8,7 @@ ghost use Rattle.moka_parts.specs.declared.policy.Instant.{Instant};
 ghost use Rattle.moka_engine.specs.Snapshots.{scene_of};
 ghost use Rattle.moka_engine.specs.declared.base_cache.restores.Restored.{Restored};
 ghost use Rattle.moka_parts.specs.Hashing.{key_hash};
-ghost use Rattle.moka_drive.specs.Saved.{AddsOnly, AreAllMembers, AreSaved, AreThere, IsRestored, IsSaved, PutsBack, PutsManyBack, TakesOnlyExpired};
+ghost use Rattle.moka_drive.specs.Saved.{AddsOnly, HasOnlyMembers, AreSaved, AreThere, IsRestored, IsSaved, PutsBack, PutsManyBack, TakesOnlyExpired};
 ghost use Rattle.moka_drive.specs.Synchronous.{Just, Makes, meaning_of, own_run};
 ghost use Rattle.moka_drive.specs.Unsent.{HidesNoMore};
 
@@ -82,7 +82,7 @@ impl<
         P: Drop,
         ensures saved { IfOk result (λ items. AreSaved P.says K.is_clone V.is_clone
             (scene_of self.new.engine.state now.0) self.new.engine.state.access items.items) }
-        ensures members { AreAllMembers self.new.engine.state }
+        ensures members { HasOnlyMembers self.new.engine.state }
         ensures run { (more : Bool) × Makes (meaning_of K.eq L.tells P.says W.weighs C.reads X.created X.read X.updated)
             (Just (own_run now) (reply.Run more)) self.old.engine clock.old self.new.engine clock.new }
         ensures counted { self.new.stats ≡ self.old.stats }

@@ -1,5 +1,5 @@
 //! Look-ups and removals by a test of the key in place of a key.
-ghost use Rattle.std.specs.Prelude.{◌≡◌, None, Some, length, true, option_map};
+ghost use Rattle.std.specs.Prelude.{◌≡◌, None, Some, false, length, true, option_map};
 ghost use Rattle.moka_parts.specs.Hashing.{key_hash};
 ghost use Rattle.moka_parts.specs.Calls.{RecordsRead, no_events};
 ghost use Rattle.moka_parts.specs.Copies.{HandsOut, IsEntryCopy};
@@ -10,7 +10,7 @@ ghost use Rattle.moka_parts.specs.Surroundings.{Leads};
 ghost use Rattle.moka_parts.specs.declared.records.ReadOperation.TheVariants.{Hit};
 ghost use Rattle.moka_store.specs.Hashing.{IsIndexHash};
 ghost use Rattle.moka_engine.specs.BaseCache.{NoneExpires};
-ghost use Rattle.moka_engine.specs.LooksBy.{FindsBy};
+ghost use Rattle.moka_engine.specs.Looks.{Finds};
 ghost use Rattle.moka_engine.specs.Makes.{Takes};
 
 use super::gets::{self, Moments};
@@ -42,8 +42,9 @@ where
     requires lasting { moments.now.policy.now.expiry ≡ None → NoneExpires inner.now.kept.records }
     requires own { (k : K) → T.passes sought.0.now k ≡ true
         → IsIndexHash S.BuildHasher S.Hasher.Hasher inner.now.kept.hasher (K.hash_input k) sought.1 }
-    ensures { FindsBy inner.now.kept moments.entry.now.policy.now moments.entry.now.valid_after.now P.says
-        invalidator.now (T.passes sought.entry.0.now) moments.entry.now.now.0 result }
+    ensures { Finds inner.now.kept moments.entry.now.policy.now moments.entry.now.valid_after.now P.says
+        invalidator.now (record_by (T.passes sought.entry.0.now) inner.now.kept.records) false
+        moments.entry.now.now.0 result }
 {
     let (test, own) = sought;
     let (handle, found) = inner.find_by(test, own)?;
@@ -62,7 +63,7 @@ impl<
     P: PredicateFn<K, V>,
     W: Weigher<K, V>,
 > BaseCache<K, V, S, X, L, P, W> {
-    /// The hash of a form of a key by the cache's own hasher. It is the key's where both give the hasher the same, as a
+    /// The hash of a form of a key by the cache's own hasher. It is the key's if both give the hasher the same, as a
     /// `&str` and a `String` of the same text do.
     #[inline(always)]
     pub fn hash_of<Q: Hash>(&self, form: &Q) -> u64

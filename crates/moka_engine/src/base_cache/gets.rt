@@ -32,7 +32,7 @@ pub(super) struct Moments<'a, X> {
 }
 
 impl<'a, X> Moments<'a, X> {
-    // Whether they hide a record, which has a moment of its own only if an expiry is set. The record is not read where
+    // Whether they hide a record, which has a moment of its own only if an expiry is set. The record is not read if
     // none can hide one.
     #[inline(always)]
     pub(super) fn hide<K, V>(&self, found: &RecordRef<'_, K, V>) -> bool
@@ -65,8 +65,8 @@ where
     ensures { (ignored : Bool)
         × IsAskedOnce I.asks (Some test.old)
         (value_of (record_of_key K.eq inner.now.kept.records sought.entry.0.now)) ignored (Some test.new)
-        × Finds K.eq inner.now.kept moments.entry.now.policy.now moments.entry.now.valid_after.now P.says
-        invalidator.now sought.entry.0.now ignored moments.entry.now.now.0 result }
+        × Finds inner.now.kept moments.entry.now.policy.now moments.entry.now.valid_after.now P.says invalidator.now
+        (record_of_key K.eq inner.now.kept.records sought.entry.0.now) ignored moments.entry.now.now.0 result }
 {
     let (key, own) = sought;
     let (handle, found) = inner.find(key, own)?;
@@ -89,8 +89,9 @@ where
     requires own { IsIndexHash S.BuildHasher S.Hasher.Hasher inner.now.kept.hasher
         (K.hash_input sought.0.now) sought.1 }
     requires lasting { moments.now.policy.now.expiry ≡ None → NoneExpires inner.now.kept.records }
-    ensures { Finds K.eq inner.now.kept moments.entry.now.policy.now moments.entry.now.valid_after.now P.says
-        invalidator.now sought.entry.0.now false moments.entry.now.now.0 result }
+    ensures { Finds inner.now.kept moments.entry.now.policy.now moments.entry.now.valid_after.now P.says
+        invalidator.now (record_of_key K.eq inner.now.kept.records sought.entry.0.now) false moments.entry.now.now.0
+        result }
 {
     find_unless(inner, moments, invalidator, sought, &mut NoTest)
 }
@@ -104,7 +105,7 @@ pub(super) struct Hit {
     pub(super) is_renewed: bool,
 }
 
-// What a hit at the moment `now` makes of a record: where an expiry is set, it is asked, and the hit counts no earlier
+// What a hit at the moment `now` makes of a record: if an expiry is set, it is asked, and the hit counts no earlier
 // than the record was written.
 #[inline(always)]
 pub(super) fn hit_of<K, V, X: Expiry<K, V>>(
@@ -155,7 +156,7 @@ fn left_at<K, V, X>(
     )
 }
 
-// A clone of the record's value, with one of its key where that is asked for.
+// A clone of the record's value, with one of its key if that is asked for.
 #[inline(always)]
 pub(super) fn entry_of<K: Clone, V: Clone>(
     found: &RecordRef<'_, K, V>,

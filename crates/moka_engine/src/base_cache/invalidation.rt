@@ -29,7 +29,7 @@ impl<
     ///
     /// # Errors
     /// `InvalidationClosuresDisabled` if the cache does not support predicates, `OutOfMemory` if memory for one more
-    /// is refused, and `NoFreeId` where all identifiers asked for are taken. The predicate comes back, and nothing has
+    /// is refused, and `NoFreeId` if all identifiers asked for are taken. The predicate comes back, and nothing has
     /// changed.
     pub fn invalidate_entries_if<I: IdSource>(
         &mut self,

@@ -26,7 +26,7 @@ impl<
         self.inner.outstanding_count() as u64
     }
 
-    /// The least ticket whose operation was not sent, and `None` where all were sent.
+    /// The least ticket whose operation was not sent, and `None` if all were sent.
     pub fn oldest_unsent(&self) -> Option<Ticket>
         ensures { option_map (λ t. t.0) result ≡ oldest_ticket self.now.state }
     {

@@ -112,11 +112,11 @@ impl<
     W: Weigher<K, V>,
 > BaseCache<K, V, S, X, L, P, W> {
     /// Puts an entry back whose key has none, with the moments and the expiry that it had, and hands out a ticket for
-    /// the operation, which is to be sent. The expiry is not asked, so the entry lasts no longer than it would have,
-    /// and the weigher is. Moments may lie in any order, and before those of other entries.
+    /// the operation, which is to be sent. The weigher is asked, and the expiry is not: the entry lasts no longer than
+    /// it would have. Moments may lie in any order, and before those of other entries.
     ///
     /// # Errors
-    /// `KeyPresent` where the key has an entry, else `NoExpiry` where the entry has an expiry of its own and the cache
+    /// `KeyPresent` if the key has an entry, else `NoExpiry` if the entry has an expiry of its own and the cache
     /// has none set, and else `NumbersUsedUp` and `OutOfMemory` as an insert. The entry comes back, and nothing has
     /// changed.
     pub fn restore(&mut self, item: Restored<K, V>) -> Result<Ticket, RestoreRefused<K, V>>
@@ -166,7 +166,7 @@ fn has_key<K: Eq + Hash, V, S: BuildHasher>(inner: &Inner<K, V, S>, key: &K, own
     inner.find(key, own).is_some()
 }
 
-// Whether an entry has an expiry of its own, where no expiry is set.
+// Whether an entry has an expiry of its own, and the cache has none set.
 fn is_unsupported<X>(expires: Option<Instant>, policy: &ExpirationPolicy<X>) -> bool
     ensures { result ≡ (is_some expires && not (is_some policy.now.expiry)) }
 {

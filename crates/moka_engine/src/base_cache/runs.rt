@@ -43,17 +43,17 @@ impl<
     /// tells whether more is left. A capacity of 0 leaves nothing to do. The housekeeper is not touched.
     ///
     /// - `now`: the moment by which all is tested.
-    /// - `clock`: tells how long the run goes on. It is read only where a listener is set and there is a limit.
+    /// - `clock`: tells how long the run goes on. It is read only if a listener is set and there is a limit.
     /// - `limit`: after this time no further pass is made, and more is left.
     /// - `repeats`: how often a run may go back to its queues. With one owner nothing is queued meanwhile, so it has no
     ///   effect.
     /// - `batch`: how many records each step of a pass looks at, but for the first. With 0 the passes remove only what
-    ///   is past its own expiry, and more is left where there is anything to test records by.
+    ///   is past its own expiry, and more is left if there is anything to test records by.
     ///
     /// Once every operation was sent, a run leaves count and weight exactly the records', and one that was not cut
     /// short, with a `batch` of at least 1, also the weight within the capacity.
     ///
-    /// Where the cache is in the order of writing, such a run also leaves no record past its time to live, and none
+    /// If the cache is in the order of writing, such a run also leaves no record past its time to live, and none
     /// written before the last invalidation of all (`laws::runs_age_out`). This applies to caches with a time to live
     /// or with support of predicates: an empty one is in that order, and calls in the order of time keep it so
     /// (`laws::calls_keep_order`), which `drive` promises of a list of calls.
@@ -111,7 +111,7 @@ impl<
     /// Makes a run of maintenance at the moment `now` if the housekeeper says that one is due: the housekeeper's last
     /// run left more, or runs start by themselves, and 64 operations are queued or 300 milliseconds have passed since
     /// the housekeeper's last run. The housekeeper gives its limit, repeats and batch to the run, and remembers the
-    /// moment and, where a listener is set, whether more is left.
+    /// moment and, if a listener is set, whether more is left.
     /// moka: `sync::base_cache::BaseCache::apply_reads_writes_if_needed`.
     pub fn apply_reads_writes_if_needed<C: Clock>(&mut self, now: Instant, clock: &mut C)
     where
@@ -226,7 +226,7 @@ impl<
     P: PredicateFn<K, V> + Drop,
     W: Weigher<K, V>,
 > InnerSync for BaseCache<K, V, S, X, L, P, W> {
-    ghost use Rattle.moka_engine.specs.EngineRuns.{EngineRuns};
+    ghost use Rattle.moka_engine.specs.Makes.{EngineRuns};
 
     ghost runs = { EngineRuns P.says X.read L.tells };
 
@@ -256,7 +256,7 @@ fn limit_of_run(is_listening: bool, limit: Option<Duration>) -> Option<Duration>
     if is_listening { limit } else { None }
 }
 
-// The weight, or the greatest number where it is greater.
+// The weight, or the greatest number if the weight is greater.
 fn saturated(weight: u128) -> u64
     ensures { result ≡ min weight greatest }
 {

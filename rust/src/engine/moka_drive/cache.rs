@@ -100,7 +100,7 @@ impl<
         self.engine.name()
     }
 
-    /// Capacity and times, as they were chosen.
+    /// Capacity and times, as they are set.
     pub fn policy(&self) -> Policy
     {
         self.engine.policy()
@@ -202,7 +202,7 @@ impl<
     /// Takes a key out, and hands its value out, expired or not. The listener, if one is set, is notified.
     ///
     /// # Errors
-    /// `NotTold`, with the value, where a listener is set and memory for a clone is refused. The entry is gone all the
+    /// `NotTold`, with the value, if a listener is set and memory for a clone is refused. The entry is gone all the
     /// same.
     pub fn remove<C: Clock>(
         &mut self,
@@ -346,8 +346,8 @@ impl<
         }
     }
 
-    // Makes the run that is due, if one is, and sends the operation; where the queue is full it is emptied by another
-    // run.
+    // Makes the run that is due, if one is, and sends the operation; if the queue is full, another run empties it
+    // before.
     fn post<C: Clock>(
         engine: &mut BaseCache<K, V, S, X, L, P, W>,
         ticket: Ticket,
@@ -416,14 +416,14 @@ impl<
     /// evicted by the runs that follow.
     ///
     /// # Errors
-    /// `ZeroCapacity` where the present capacity or the new one is 0. Nothing has changed.
+    /// `ZeroCapacity` if the present capacity or the new one is 0. Nothing has changed.
     pub fn set_max_capacity(&mut self, capacity: Option<u64>) -> Result<(), CapacityError>
     {
         self.engine.set_max_capacity(capacity)
     }
 
-    /// Invalidates all entries that were written or read before the moment `now`, also where that is earlier than
-    /// before.
+    /// Invalidates all entries that were written or read before the moment `now`, which replaces that of an earlier
+    /// call.
     pub fn invalidate_all(&mut self, now: Instant)
     {
         self.engine.invalidate_all(now);
@@ -479,7 +479,7 @@ fn value_of<K, V>(
     }
 }
 
-// What a removal answers: the value that was taken out, or, where the listener could not be notified, the error with
+// What a removal answers: the value that was taken out, or, if the listener could not be notified, the error with
 // it.
 fn removed<V>(taken: Option<(V, Result<(), OutOfMemory>)>) -> Result<Option<V>, NotTold<V>>
 {

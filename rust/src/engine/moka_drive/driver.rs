@@ -25,7 +25,7 @@ use crate::support::hash::{BuildHasher, Hash};
 /// The calls are in the order of time if no insert is earlier than the last write of a record that is there, and each
 /// send moves the oldest operation that waits. If the cache is empty at first and the calls are in the order of time,
 /// such a run also leaves no record past its time to live, and none written before the last invalidation of all. This
-/// applies to caches with a time to live or with predicates.
+/// applies to caches that have a time to live or support predicates.
 ///
 /// # Errors
 /// `OutOfMemory` if there is no room for the replies. The calls come back, and none was made. If a single call is

@@ -10,7 +10,7 @@ use crate::engine::moka_parts::notification::Listener;
 use crate::engine::moka_parts::policy::Expiry;
 
 /// Calls that are chains of steps (`Made`), one after the other, are one run of the reference cache, however many there
-/// are, where each goes on with the clock that the one before it left (else `made_anytime`). `restore` and
+/// are, if each goes on with the clock that the one before it left (else `made_anytime`). `restore` and
 /// `restore_entry` are none, since the reference cache has no such call; nor is `invalidate_entries_if`, which asks for
 /// identifiers (`joins_registrations`).
 pub fn goes_on<
@@ -41,8 +41,8 @@ pub fn makes_one_step<
 
 /// Calls between which the clock moves are one run too: what was made by a clock was made by one that may tell any
 /// moment (`anytime`), such calls join, and their run keeps all that is promised of a list of calls; whether the
-/// listener hears of keys and values or of clones. So the calls of a cache that owns its clock join, each of which
-/// reads it first, and those of a cache that is handed a fresh clock at each.
+/// listener is notified of keys and values or of clones. So the calls of a cache that owns its clock join, each of
+/// which reads it first, and those of a cache that is handed a fresh clock at each.
 pub fn made_anytime<
     K: Eq + Clone,
     V: Clone,
@@ -56,8 +56,8 @@ pub fn made_anytime<
 {}
 
 /// Chains of steps (`Made`) and calls of `invalidate_entries_if` are one run, in which identifiers are asked for
-/// (`MadeAsking`), and which keeps all that is promised of a list of calls; whether the listener hears of keys and
-/// values or of clones, and also where the clock moves between them (`made_anytime`).
+/// (`MadeAsking`), and which keeps all that is promised of a list of calls; whether the listener is notified of keys
+/// and values or of clones, and also if the clock moves between them (`made_anytime`).
 pub fn joins_registrations<
     K: Eq + Clone,
     V: Clone,
@@ -99,7 +99,7 @@ pub fn ages_out<
 >()
 {}
 
-/// What a listener hears may be seen as clones, so that calls which tell clones and calls which tell none are one list.
+/// What a listener is notified of may be seen as clones, so calls that notify of clones join those that do not.
 pub fn hears_clones<
     K: Eq + Clone,
     V: Clone,
@@ -112,7 +112,7 @@ pub fn hears_clones<
 >()
 {}
 
-/// Where clones equal what was cloned, the listener hears of keys and values themselves.
+/// If clones equal what was cloned, the listener is notified of keys and values themselves.
 pub fn hears_themselves<
     K: Eq + Clone,
     V: Clone,
@@ -132,9 +132,9 @@ pub fn counts_look_ups<K, V: Clone, P, E>()
 {}
 
 /// Over calls that are chains of steps (`Made`) of a cache with a `CountingListener`, each counter rises by the
-/// removals of its cause in the run of the reference cache, saturating; and the listener within hears of each. The same
-/// holds of whatever such a listener heard (`heard`, `clones_heard`), so of each list of calls whose run says what was
-/// heard (`is_run`), as `joins_registrations` and `made_anytime` give it.
+/// removals of its cause in the run of the reference cache, saturating; and the listener within is notified of each.
+/// The same holds of whatever such a listener heard (`heard`, `clones_heard`), so of each list of calls whose run says
+/// what was heard (`is_run`), as `joins_registrations` and `made_anytime` give it.
 pub fn counts_removals<
     K: Eq + Clone,
     V: Clone,
@@ -147,7 +147,7 @@ pub fn counts_removals<
 >()
 {}
 
-/// What was put back as it was listed answers as before: whenever one of the two records is visible the other is, where
+/// What was put back as it was listed answers as before: whenever one of the two records is visible the other is, if
 /// the times are the same, and the second cache has no predicates and no invalidation of all.
 pub fn answers_as_before<K, V, X, P: PredicateFn<K, V>, W>()
 {}

@@ -13,7 +13,7 @@ use crate::support::hash::{BuildHasher, Hash};
 pub struct Removals {
     /// Values whose entry's time was over.
     pub expired: u64,
-    /// Values that callers invalidated.
+    /// Values that callers removed or invalidated.
     pub explicit: u64,
     /// Values that callers replaced.
     pub replaced: u64,
@@ -45,7 +45,7 @@ impl Removals {
     }
 }
 
-/// A listener that counts removals by their causes, and passes each on to the listener within. Where nobody else
+/// A listener that counts removals by their causes, and passes each on to the listener within. If nobody else
 /// listens, that is `NoListener`.
 pub struct CountingListener<L> {
     /// The listener within.
@@ -80,7 +80,7 @@ impl<
     W: Weigher<K, V>,
     S: BuildHasher,
 > Cache<K, V, X, CountingListener<L>, P, W, S> {
-    /// How many values left, by cause, as the cache's listener was notified; none where the cache has none. A removal
+    /// How many values left, by cause, as the cache's listener was notified; none if the cache has none. A removal
     /// of which it could not be notified, since memory was refused, is not counted.
     pub fn removals(&self) -> Removals
     {

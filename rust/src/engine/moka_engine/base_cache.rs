@@ -121,7 +121,7 @@ impl<
     ///   nothing.
     /// - `build_hasher`: hashes keys, for `hash` and for the map.
     /// - `weigher`: weighs entries as they are inserted, from 0 to 2^32 - 1; without one each weighs 1.
-    /// - `eviction_policy`: what leaves where the capacity is exceeded.
+    /// - `eviction_policy`: what leaves if the capacity is exceeded.
     /// - `eviction_listener`: is notified of key, value and cause of each removal but those by `remove_entry`.
     /// - `expiration_policy`: the time to live, as a duration since the last insert; the time to idle, as one since the
     ///   last insert or read; and the expiry of single entries, which inserts and gets ask. Any duration is taken, to
@@ -134,7 +134,7 @@ impl<
     ///   refused with `NumbersUsedUp`.
     ///
     /// # Errors
-    /// `OutOfMemory` if memory for the tables is refused, and where `initial_capacity` would need a place of more than
+    /// `OutOfMemory` if memory for the tables is refused, or if `initial_capacity` would need a place of more than
     /// 32 bits.
     #[allow(clippy::too_many_arguments)]
     pub fn new(
@@ -220,7 +220,7 @@ impl<
     /// capacity is evicted by the runs that follow. A frequency sketch that is in use stays as it is.
     ///
     /// # Errors
-    /// `ZeroCapacity` where the present capacity or the new one is 0: a disabled cache stays disabled, and no other
+    /// `ZeroCapacity` if the present capacity or the new one is 0: a disabled cache stays disabled, and no other
     /// becomes so. Nothing has changed.
     pub fn set_max_capacity(&mut self, capacity: Option<u64>) -> Result<(), CapacityError>
     {
@@ -267,7 +267,7 @@ impl<
     ///
     /// # Errors
     /// `NumbersUsedUp` if too few tickets are left, and `OutOfMemory` if memory for the operation or for a new
-    /// record is refused, and where a new record would need a place of more than 32 bits: fewer than 2^32 records are
+    /// record is refused, or if a new record would need a place of more than 32 bits: fewer than 2^32 records are
     /// kept. Key and value come back, and nothing has changed.
     #[inline(always)]
     pub fn do_insert_with_hash(
@@ -282,7 +282,7 @@ impl<
         self.insert_hashed(key, Hashes { hash, own }, value, now)
     }
 
-    /// As `do_insert_with_hash` with the key's hash by the cache's own hasher, as `hash` tells it, which is not made
+    /// As `do_insert_with_hash`, given the key's hash by the cache's own hasher (`hash`), so the key is not hashed
     /// again.
     ///
     /// # Errors
@@ -344,7 +344,7 @@ impl<
     /// Moves the operation of the ticket to the back of the queue of writes. No run starts.
     ///
     /// # Errors
-    /// `UnknownTicket` where no operation waits under the ticket, and else `QueueFull` where 384 operations are queued;
+    /// `UnknownTicket` if no operation waits under the ticket, and else `QueueFull` if 384 operations are queued;
     /// the operation is kept.
     #[inline(always)]
     pub fn send(&mut self, ticket: Ticket) -> Result<(), SendError>
@@ -361,7 +361,7 @@ impl<
         self.remove_hashed(key, own)
     }
 
-    /// As `remove_entry` with the key's hash by the cache's own hasher, as `hash` tells it, which is not made again.
+    /// As `remove_entry`, given the key's hash by the cache's own hasher (`hash`), so the key is not hashed again.
     pub fn remove_entry_with_own_hash(
         &mut self,
         key: &K,
@@ -403,8 +403,8 @@ impl<
         Ok(())
     }
 
-    /// Invalidates all records that were written or read before the moment `now`, also where that is earlier than
-    /// before. They are hidden from now on, and runs of maintenance remove them.
+    /// Invalidates all records that were written or read before the moment `now`, which replaces that of an earlier
+    /// call. They are hidden from now on, and runs of maintenance remove them.
     pub fn invalidate_all(&mut self, now: Instant)
     {
         self.valid_after = Some(now);
@@ -417,7 +417,7 @@ impl<
         self.contains_hashed(key, own, now)
     }
 
-    /// As `contains_key_with_hash` with the key's hash by the cache's own hasher, as `hash` tells it, which is not made
+    /// As `contains_key_with_hash`, given the key's hash by the cache's own hasher (`hash`), so the key is not hashed
     /// again.
     pub fn contains_key_with_own_hash(&self, key: &K, hash: u64, now: Instant) -> bool
     {
@@ -470,7 +470,7 @@ impl<
     }
 
     /// Looks up a key at the moment `now`, and queues the read. The answer has a clone of the record's value, and one
-    /// of its key where `need_key` asks for it. Where the capacity is 0 nothing is found and no read is queued. Before
+    /// of its key if `need_key` asks for it. If the capacity is 0, nothing is found and no read is queued. Before
     /// the read is queued a run of maintenance is made if the housekeeper says that one is due; the clock is for that
     /// run.
     ///
@@ -499,7 +499,7 @@ impl<
         self.get_hashed(look, &mut NoTest, clock)
     }
 
-    /// As `get_with_hash` with the key's hash by the cache's own hasher, as `hash` tells it, which is not made again.
+    /// As `get_with_hash`, given the key's hash by the cache's own hasher (`hash`), so the key is not hashed again.
     ///
     /// # Errors
     /// As those of `get_with_hash`.

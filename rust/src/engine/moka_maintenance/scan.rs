@@ -46,10 +46,10 @@ pub(crate) fn scan<K: Eq + Hash, V, S: BuildHasher, L: Listener<K, V>, P>(
 where
     P: PredicateFn<K, V>,
 {
+    store.invariant_holds();
     if invalidator.is_empty() {
         return false;
     }
-    store.invariant_holds();
     let round = go_round(store, notifier, invalidator, batch);
     if round.is_end {
         drop_idle(store, invalidator);

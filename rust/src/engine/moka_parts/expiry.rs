@@ -28,7 +28,7 @@ pub fn is_expired_by_tti(time_to_idle: Option<Duration>, read: Instant, now: Ins
     time_to_idle.is_some_and(|duration| read.saturating_add(duration) <= now)
 }
 
-/// Whether a moment lies before that from which entries are valid, where one is set.
+/// Whether a moment lies before the one from which entries are valid, if that is set.
 /// moka: `sync::base_cache::is_invalid_entry`.
 pub fn is_invalid_entry(valid_after: Option<Instant>, moment: Instant) -> bool
 {
@@ -51,7 +51,7 @@ pub fn has_lapsed<K, V, X>(
         || is_invalid_entry(valid_after, entry.read())
 }
 
-/// The moment so much later, where a duration is given.
+/// The moment that lies a duration later, if one is given.
 pub fn deadline_of(duration: Option<Duration>, moment: Instant) -> Option<Instant>
 {
     duration.map(|duration| moment.saturating_add(duration))
@@ -67,7 +67,7 @@ fn earlier(one: Option<Instant>, other: Option<Instant>) -> Option<Instant>
     }
 }
 
-/// How long an entry still lasts at a moment, `None` where it does not expire.
+/// How long an entry still lasts at a moment, `None` if it does not expire.
 pub fn remaining(
     expires: Option<Instant>,
     written: Instant,

@@ -9,12 +9,12 @@ use crate::engine::moka_parts::invalidator::IdSource;
 use crate::engine::moka_parts::notification::Listener;
 use crate::engine::moka_parts::policy::Expiry;
 
-/// A get finds a value exactly where the key is contained, unless memory for a clone is refused: a get of `drive`, and
+/// A get finds a value exactly if the key is contained, unless memory for a clone is refused: a get of `drive`, and
 /// one of `BaseCache` from one write list to another.
 pub fn gets_what_is_contained<K: Eq, V, X: Expiry<K, V>, P: PredicateFn<K, V>, W>()
 {}
 
-/// A key that is hidden stays so until it is inserted again, where moments never go back.
+/// A hidden key stays hidden until it is inserted again, if moments never go back, nor that of `invalidate_all`.
 pub fn stays_hidden<
     K: Eq,
     V,
@@ -57,7 +57,7 @@ pub fn admits_well<K, V>()
 pub fn peeks_quietly<K: Eq, V, X: Expiry<K, V>, P: PredicateFn<K, V>, W>()
 {}
 
-/// Where a listener is set, it is notified exactly once of each value that leaves the map other than by a caller's
+/// If a listener is set, it is notified exactly once of each value that leaves the map other than by a caller's
 /// removal.
 pub fn tells_each_once<
     K: Eq,
@@ -88,7 +88,7 @@ pub fn stays_valid<
 >()
 {}
 
-/// Where the write list is kept, calls in the order of time keep a state in the order of writing.
+/// If the write list is kept, calls in the order of time keep a state in the order of writing.
 pub fn stays_in_order<
     K: Eq,
     V,
@@ -109,12 +109,12 @@ pub fn ends_exact<K: Eq, V, X, P: PredicateFn<K, V>, W>()
 pub fn counts_nearly<K: Eq, V, X, P: PredicateFn<K, V>, W>()
 {}
 
-/// Where weight is the only ground for a removal, a run that ends within the capacity removes just enough from the
+/// If weight is the only ground for a removal, a run that ends within the capacity removes just enough from the
 /// least recently used end.
 pub fn removes_enough<K, V, X, P: PredicateFn<K, V>, W>()
 {}
 
-/// Where weight is the only ground for a removal, a run removes the least recently used first.
+/// If weight is the only ground for a removal, a run removes the least recently used first.
 pub fn removes_first<K, V, X, P: PredicateFn<K, V>, W>()
 {}
 
@@ -171,7 +171,7 @@ pub fn runs_age_out<K: Eq, V, X: Expiry<K, V>, P: PredicateFn<K, V>, W>()
 pub fn sends_after_run<K, V, X: Expiry<K, V>, P: PredicateFn<K, V>, W>()
 {}
 
-/// Where the write list is kept, a call in the order of time keeps a state in the order of writing, with the write list
+/// If the write list is kept, a call in the order of time keeps a state in the order of writing, with the write list
 /// that the call leaves.
 pub fn calls_keep_order<
     K: Eq,
@@ -185,7 +185,7 @@ pub fn calls_keep_order<
 >()
 {}
 
-/// Where the write list is kept, a list of calls in the order of time keeps a state in the order of writing, with the
+/// If the write list is kept, a list of calls in the order of time keeps a state in the order of writing, with the
 /// write list that the last of them leaves.
 pub fn lists_keep_order<
     K: Eq,

@@ -132,10 +132,10 @@ impl fmt::Debug for EvictionPolicy {
 /// `ExpireAfter` beside `NoExpiry`.
 pub trait Expiry<K, V> {
 
-    /// How long an entry lasts that is created now, or `None` where it does not expire by itself.
+    /// How long an entry that is created now lasts, or `None` if it does not expire by itself.
     fn expire_after_create(&self, key: &K, value: &V, created_at: Instant) -> Option<Duration>;
 
-    /// How long an entry lasts after a read, where `duration_until_expiry` is what it has left.
+    /// How long an entry lasts after a read; `duration_until_expiry` is what it has left.
     fn expire_after_read(
         &self,
         key: &K,
@@ -145,7 +145,7 @@ pub trait Expiry<K, V> {
         last_modified_at: Instant,
     ) -> Option<Duration>;
 
-    /// How long an entry lasts after its value was replaced, where `duration_until_expiry` is what
+    /// How long an entry lasts after its value was replaced; `duration_until_expiry` is what
     /// it has left.
     fn expire_after_update(
         &self,

@@ -6,7 +6,7 @@ use crate::support::prelude::*;
 use crate::engine::moka_parts::policy::Instant;
 use crate::engine::moka_parts::records::Record;
 
-/// What look-ups read of a record, also where it has a time to live.
+/// What look-ups read of a record, also if there is a time to live.
 pub struct Hot<K, V> {
     /// The key of the first insert.
     pub key: K,

@@ -134,8 +134,8 @@ pub fn none_belong<
 >()
 {}
 
-/// What is so of moves (`each_runs`) is so of those that the cache's own calls are: where listeners may hear of clones,
-/// and identifiers are given. Moves after moves are moves, so that this holds of a list of calls, however long.
+/// What holds of moves (`each_runs`) holds of those that the cache's own calls are, in which identifiers are given, and
+/// listeners may be notified of clones. Moves after moves are moves, so it holds of a list of calls, however long.
 pub fn own_calls_run<
     K: Eq + Clone,
     V: Clone,

@@ -7,7 +7,7 @@ use crate::engine::moka_drive::{Cache, Stats};
 use crate::engine::moka_parts::closures::{PredicateFn, Weigher};
 use crate::engine::moka_parts::housekeeper::Clock;
 use crate::engine::moka_parts::notification::Listener;
-use crate::engine::moka_parts::policy::{Expiry, Instant};
+use crate::engine::moka_parts::policy::{Expiry, Instant, Policy};
 use crate::support::hash::{BuildHasher, Hash};
 
 impl<
@@ -43,8 +43,26 @@ impl<
         Self::capacity_of(&self.segments)
     }
 
-    /// Invalidates all entries that were written or read before the moment `now`, also where that is earlier than
-    /// before.
+    /// The first segment's name, if it has one.
+    pub fn name(&self) -> Option<&str>
+    {
+        self.first().name()
+    }
+
+    /// The capacity of all, as `max_capacity` tells it, and the first segment's times, as they are set. Its
+    /// `num_segments` is 1, as a segment's is: `router().count()` tells how many there are.
+    pub fn policy(&self) -> Policy
+    {
+        let first = self.first().policy();
+        Policy::new(
+            self.max_capacity(),
+            first.time_to_live(),
+            first.time_to_idle(),
+        )
+    }
+
+    /// Invalidates all entries that were written or read before the moment `now`, which replaces that of an earlier
+    /// call.
     pub fn invalidate_all(&mut self, now: Instant)
     {
         Self::hide_all(&mut self.segments, now);

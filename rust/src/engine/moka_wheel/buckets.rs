@@ -25,6 +25,12 @@ fn start_of(moment: u64, bucket: u32) -> u64
     (above * 256 + u64::from(bucket % 256)) << (8 * level)
 }
 
+/// How many moments a bucket has.
+fn span_of(bucket: u32) -> u64
+{
+    1 << (8 * (bucket / 256))
+}
+
 impl Buckets {
     /// The heads of the lists, round each of which its list closes, with no timer.
     pub(crate) fn new(alloc: Global) -> Result<Self, AllocError>
@@ -70,8 +76,8 @@ impl Buckets {
         unmark(&mut self.occupied, bucket);
     }
 
-    /// Moves the wheel to the start of the first marked bucket and spreads it. Where none starts up to `now`,
-    /// moves the wheel to `now`; the answer is then false.
+    /// Moves the wheel to the end of the first marked bucket, at most to `now`, and spreads it. If none starts up to
+    /// `now`, moves the wheel to `now`; the answer is then false.
     fn step(&mut self, now: u64) -> bool
     {
         let Some(bucket) = first_marked(&self.occupied) else {
@@ -83,7 +89,7 @@ impl Buckets {
             self.moment = now;
             return false;
         }
-        self.moment = start;
+        self.moment = start + (now - start).min(span_of(bucket) - 1);
         self.spread(bucket);
         true
     }

@@ -9,6 +9,7 @@ use crate::engine::moka_engine::{CacheConfig, FixedClock, Instant, NoExpiry, NoL
 use crate::engine::moka_segments::SegmentedCache;
 use crate::support::alloc::Global;
 use crate::support::test::test::Fail;
+use crate::support::time::Duration;
 
 const NOW: Instant = Instant(0);
 
@@ -96,6 +97,24 @@ fn shares_the_capacity() -> Result<(), Fail> {
         &rt,
         (is_full, whole, is_within, are_shares),
         (true, Some(42), true, true),
+    );
+    Ok(())
+}
+
+#[test]
+fn tells_name_and_policy() -> Result<(), Fail> {
+    let rt = HostRuntime;
+    let make = |_| CacheConfig::default().time_to_live(Duration::from_secs(5));
+    let cache = SegmentedCache::<u64, u64>::build(4, Some(42), make, rt.alloc(), NOW);
+    let Ok(cache) = cache else {
+        return Err("memory".into());
+    };
+    let policy = cache.policy();
+    let (most, lasting) = (policy.max_capacity(), policy.time_to_live());
+    assert_equal(
+        &rt,
+        (cache.name().is_none(), most, lasting),
+        (true, Some(42), Some(Duration::from_secs(5))),
     );
     Ok(())
 }

@@ -80,7 +80,7 @@ impl<
         self.cache.name()
     }
 
-    /// Capacity and times, as they were chosen.
+    /// Capacity and times, as they are set.
     pub fn policy(&self) -> Policy
     {
         self.cache.policy()

@@ -12,7 +12,7 @@ use crate::support::time::Duration;
 /// `HostRuntime`.
 pub trait Monotonic {
 
-    /// It may tell so many nanoseconds, or nothing where it cannot be read.
+    /// It may tell so many nanoseconds, or nothing if it cannot be read.
 
     /// The time since it started, if it can be read.
     fn since_start(&self) -> Option<Duration>;
@@ -25,7 +25,7 @@ impl<R: crate::support::time::Clock> Monotonic for R {
     }
 }
 
-/// The system's monotonic time, in nanoseconds since its source started, saturating. Its moments never go back: where
+/// The system's monotonic time, in nanoseconds since its source started, saturating. Its moments never go back: if
 /// the source does, or cannot be read, the last moment is given again.
 pub struct SystemClock<R> {
     source: R,

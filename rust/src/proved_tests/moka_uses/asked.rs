@@ -9,7 +9,7 @@ use crate::engine::moka_engine::{Engine, FixedClock, Instant, NoExpiry, NoPredic
 /// value is the same (`gets_what_is_contained`).
 ///
 /// # Errors
-/// `OutOfMemory` where memory for a clone of the value is refused; numbers take none. The cache is as it was.
+/// `OutOfMemory` if memory for a clone of the value is refused; numbers take none. The cache is as it was.
 pub fn ask_twice(
     cache: &mut Engine<u64, u64>,
     key: u64,

@@ -16,7 +16,7 @@ use crate::support::hash::{BuildHasher, Hash};
 /// calls are (`lists_are_of_reference`).
 ///
 /// # Errors
-/// The calls, where there is no memory for the replies; none was made.
+/// The calls, if there is no memory for the replies; none was made.
 pub fn make_calls<
     K: Eq + Hash + Clone,
     V: Clone,

@@ -8,7 +8,8 @@ use crate::engine::moka_engine::{
     NoListener, OutOfMemory, PredicateFn, PredicateId,
 };
 
-/// Puts a value under a key. If memory is refused, the insert is made once more, with what came back of the first.
+/// Puts a value under a key. If memory is refused, the insert is made once more, with what came back of the first. A
+/// cache of capacity 0 drops both.
 ///
 /// # Errors
 /// The insert that was refused, with key and value; the cache is as it was.
@@ -31,7 +32,7 @@ pub fn put<C: Clock>(
     }
 }
 
-/// Takes a value out, whether the listener could be told of it or not. The key is not there then.
+/// Takes a value out, whether the listener could be notified of it or not. The key is not there then.
 pub fn take<V: Clone, L: Listener<u64, V>, C: Clock>(
     cache: &mut Cache<u64, V, NoExpiry, L>,
     key: u64,
@@ -49,7 +50,7 @@ pub fn take<V: Clone, L: Listener<u64, V>, C: Clock>(
 /// handed out all the same. If the look-up is refused, it is made once more, with the key that came back.
 ///
 /// # Errors
-/// `OutOfMemory` where the second look-up is refused too.
+/// `OutOfMemory` if the second look-up is refused too.
 pub fn value_or_made<V: Clone, F: FnOnce() -> V, C: Clock>(
     cache: &mut Cache<u64, V>,
     key: u64,

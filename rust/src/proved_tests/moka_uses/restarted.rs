@@ -22,12 +22,12 @@ pub fn save<C: Clock>(
     sessions.save(alloc)
 }
 
-/// The sessions that were saved, but for those that have ended meanwhile. Each ends when it would have ended: where it
+/// The sessions that were saved, but for those that have ended meanwhile. Each ends when it would have ended: if it
 /// is not used for the time `idle`, counted from its last use before the restart.
 ///
 /// # Errors
-/// `OutOfMemory`, also where a user was saved twice or a session has an expiry of its own. Then the sessions are let
-/// go.
+/// `OutOfMemory`, also if a user was saved twice or a session has an expiry of its own. Then the sessions are
+/// dropped.
 pub fn start_again<C: Clock>(
     alloc: Global,
     idle: Duration,
@@ -46,8 +46,8 @@ pub fn start_again<C: Clock>(
 /// As `start_again`, with at most so many sessions. If no more were saved, none is left out that has not ended.
 ///
 /// # Errors
-/// `OutOfMemory`, also where a user was saved twice or a session has an expiry of its own. Then the sessions are let
-/// go.
+/// `OutOfMemory`, also if a user was saved twice or a session has an expiry of its own. Then the sessions are
+/// dropped.
 pub fn start_again_within<C: Clock>(
     alloc: Global,
     idle: Duration,
@@ -67,7 +67,7 @@ pub fn start_again_within<C: Clock>(
     }
 }
 
-/// New sessions in place of others. Where those have the same idle time and no time to live, each user has the same
+/// New sessions in place of others. If those have the same idle time and no time to live, each user has the same
 /// session in both, from the moments on at which they were saved and put back, until either is used or changed.
 ///
 /// # Errors

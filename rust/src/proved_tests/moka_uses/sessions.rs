@@ -23,7 +23,8 @@ pub fn start<C: Clock>(
     TimedCache::build(CacheConfig::default().time_to_idle(idle), alloc, clock)
 }
 
-/// Begins a session of a user, used at the clock's moment. One that the user has ends.
+/// Begins a session of a user, used at the clock's moment. One that the user has ends. Where the capacity is 0 none is
+/// kept.
 ///
 /// # Errors
 /// The insert that was refused, with user and token; the sessions are as they were.
@@ -46,7 +47,7 @@ pub fn touch<C: Clock>(sessions: &mut Sessions<C>, user: u64) -> Result<Option<u
     sessions.get(&user)
 }
 
-/// Ends the session of a user, and hands its token out, also where its time is over. The user has none then.
+/// Ends the session of a user, and hands its token out, also if its time is over. The user has none then.
 pub fn log_out<C: Clock>(sessions: &mut Sessions<C>, user: u64) -> Option<u64>
 {
     match sessions.remove(&user) {

@@ -4,7 +4,7 @@ use crate::support::prelude::*;
 #[cfg(test)]
 use crate::support::test::prelude::*;
 use crate::proved_tests::moka_uses_tests::equal::assert_equal;
-use crate::support::anyhow::{Result, bail};
+use crate::support::anyhow::Result;
 use crate::engine::moka_drive::Cache;
 use crate::engine::moka_engine::{
     CacheConfig, FixedClock, InsertError, Instant, NoExpiry, NoPredicate, OutOfMemory,
@@ -57,9 +57,6 @@ fn does_the_next_best() -> Result<()> {
         .max_capacity(4)
         .first_ticket(u64::MAX);
     let mut cache: Cache<u64, u64> = Cache::build(config, rt.alloc(), NOW)?;
-    if cache.engine().is_map_disabled() {
-        bail!("a cache of four entries keeps nothing");
-    }
     let refused = put(&mut cache, 1, 10, NOW, clock).err();
     let back = refused.map(|refused| (refused.error, refused.key, refused.value));
     assert_equal(&rt, back, Some((InsertError::NumbersUsedUp, 1, 10)));

@@ -4,7 +4,7 @@ use crate::support::prelude::*;
 #[cfg(test)]
 use crate::support::test::prelude::*;
 use crate::proved_tests::moka_uses_tests::equal::assert_equal;
-use crate::support::anyhow::{Result, bail};
+use crate::support::anyhow::Result;
 use crate::engine::moka_engine::{Instant, PredicateError};
 use crate::proved_tests::moka_timed::ManualClock;
 use crate::proved_tests::moka_uses::invalidated::CountedIds;
@@ -17,9 +17,6 @@ fn a_log_out_ends_all_of_a_user() -> Result<()> {
     let clock = ManualClock { now: Instant(0) };
     let mut logins = start(rt.alloc(), Duration::from_nanos(100), clock)?;
     for (number, user) in [(1, 7), (2, 8), (3, 7)] {
-        if logins.cache.engine().is_map_disabled() {
-            bail!("a cache of sessions keeps nothing");
-        }
         let token = number * 10;
         log_in(&mut logins, number, Session { user, token })?;
     }
@@ -36,9 +33,6 @@ fn a_log_out_ends_all_of_a_user() -> Result<()> {
     assert_equal(&rt, find(&mut logins, 2)?, Some(other));
 
     logins.clock.advance(Duration::from_nanos(1));
-    if logins.cache.engine().is_map_disabled() {
-        bail!("a cache of sessions keeps nothing");
-    }
     let again = Session { user: 7, token: 11 };
     log_in(&mut logins, 1, again)?;
     assert_equal(&rt, find(&mut logins, 1)?, Some(again));

@@ -4,7 +4,7 @@ use crate::support::prelude::*;
 #[cfg(test)]
 use crate::support::test::prelude::*;
 use crate::proved_tests::moka_uses_tests::equal::assert_equal;
-use crate::support::anyhow::{Result, bail};
+use crate::support::anyhow::Result;
 use crate::engine::moka_engine::Instant;
 use crate::proved_tests::moka_timed::ManualClock;
 use crate::proved_tests::moka_uses::restarted::{hand_over, save, start_again, start_again_within};
@@ -14,9 +14,6 @@ use crate::support::time::Duration;
 // Logs users 1 to 3 in, so many nanoseconds apart.
 fn log_three_in(sessions: &mut Sessions<ManualClock>, apart: u64) -> Result<()> {
     for user in 1..4 {
-        if sessions.cache.engine().is_map_disabled() {
-            bail!("a cache of sessions keeps nothing");
-        }
         log_in(sessions, user, user * 10)?;
         sessions.clock.advance(Duration::from_nanos(apart));
     }

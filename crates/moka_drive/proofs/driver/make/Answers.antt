@@ -6,7 +6,9 @@ use Rattle.moka_parts.specs.State.{Events, meaning_of}
 use Rattle.moka_parts.specs.Surroundings.{Leads}
 use Rattle.moka_parts.proofs.Copies.{answer-same, entry-same}
 use Rattle.moka_drive.proofs.Made.{nothing_befalls}
-use Rattle.moka_drive.proofs.Quiet.{get_asks_nothing, keys_step, pending_step}
+use Rattle.moka_drive.proofs.Posting.{listed_run_alike}
+use Rattle.moka_drive.proofs.Quiet.{keys_step, pending_step}
+use Rattle.moka_drive.proofs.Waiting.{get_alike}
 use Rattle.moka_drive.proofs.driver.make.Goals as goal
 
 pub returns-in-Insert : goal.returns-in-Insert
@@ -19,7 +21,8 @@ returns-in-Get g c =
     let equal = entry-same g.K.Clone.is_clone g.V.Clone.is_clone c.requires.keys c.requires.values in
     let same = answer-same (IsEntryCopy g.K.Clone.is_clone g.V.Clone.is_clone) equal got.0 c.get_with_hash.result got.2 in
     let step = subst (λ a. GetStep g.P.PredicateFn.says g.X.Expiry.read (ListedRun g.P.PredicateFn.says g.X.Expiry.read c.args.cache.now.write_list c.get_with_hash.new.self.write_list) g.K.PartialEq.eq c.args.cache.now.state c.in-Get.key c.in-Get.hash c.in-Get.need_key false c.in-Get.now.0 a got.1.0 c.get_with_hash.new.self.state) (sym same) got.1.1 in
-    let unasked = get_asks_nothing (ListedRun g.P.PredicateFn.says g.X.Expiry.read c.args.cache.now.write_list c.get_with_hash.new.self.write_list) g.P.PredicateFn.says g.X.Expiry.read g.K.PartialEq.eq c.args.cache.now.state c.in-Get.key c.in-Get.hash c.in-Get.need_key false c.in-Get.now.0 got.0 got.1.0 c.get_with_hash.new.self.state got.1.1 in
+    let runs_alike = listed_run_alike g.P.PredicateFn.says g.X.Expiry.read c.args.cache.now.write_list c.get_with_hash.new.self.write_list in
+    let unasked = (get_alike (ListedRun g.P.PredicateFn.says g.X.Expiry.read c.args.cache.now.write_list c.get_with_hash.new.self.write_list) runs_alike g.P.PredicateFn.says g.X.Expiry.read g.K.PartialEq.eq c.args.cache.now.state c.in-Get.key c.in-Get.hash c.in-Get.need_key false c.in-Get.now.0 got.0 got.1.0 c.get_with_hash.new.self.state got.1.1).1 in
     rw c.in-Get.is (got.1.0, step, got.1.2, (got.1.3, subst (λ ids. Leads g.I.IdSource.gives c.args.ids.now ids c.args.ids.now) (sym unasked) refl))
 
 pub returns-in-GetUnrecorded : goal.returns-in-GetUnrecorded

@@ -3,7 +3,7 @@ use Rattle.moka_index.specs.declared.group.Group.{Group}
 use Rattle.moka_index.specs.Group.{home, lane_hash}
 use Rattle.moka_index.specs.Groups.{probe, distance, group_at, entries_of, IsTight}
 use Rattle.moka_index.proofs.Changes.{Leaves, lowered-leaves, lowered-tight}
-use Rattle.moka_index.proofs.Moves.{group-read}
+use Rattle.moka_index.proofs.Lanes.{group-read}
 use Rattle.moka_index.proofs.Search.{falls-next}
 use Rattle.moka_index.proofs.groups.lower_reach.Goals.{then-loop-reach-test+else-not-has_home, else-loop-reach-test}
 use Rattle.moka_index.proofs.groups.lower_reach.Goals as goal
@@ -37,24 +37,13 @@ loop-reach-preserved c =
     falls-next items c.args.first c.loop-reach.reach c.requires.groups c.requires.first c.loop-reach.invariant
     (subst (λ x. (lane : ℕ) → lane < x.count → home (length items) (lane_hash x lane) ≢ c.args.first) read (subst (λ n. (lane : ℕ) → lane < c.index-in-loop-reach.result.now.count → home n (lane_hash c.index-in-loop-reach.result.now lane) ≢ c.args.first) n_is none))
 
-left : (c : goal.After-groups-1) → Leaves c.args.groups.now.items (slice_set c.args.groups.now.items c.args.first (record c.index_mut.result.now { reach = c.loop-reach.reach })) (entries_of c.args.groups.now.items)
-left c =
-    let items : List Group = c.args.groups.now.items in
-    let read : c.index_mut.result.now ≡ group_at items c.args.first = c.index_mut.ensures.value ∙ group-read items c.args.first c.index_mut.result.now c.requires.first in
-    subst (λ (x : Group). Leaves items (slice_set items c.args.first (record x { reach = c.loop-reach.reach })) (entries_of items)) (sym read)
-    (lowered-leaves items c.requires.groups c.args.first c.loop-reach.reach c.requires.first c.loop-reach.invariant.less c.loop-reach.invariant.enough)
-
-pub returns-clause-groups : goal.returns-clause-groups
-returns-clause-groups c = (left c).groups
-
-pub returns-clause-entries : goal.returns-clause-entries
-returns-clause-entries c = (left c).entries
-
-pub returns-clause-tight : goal.returns-clause-tight
-returns-clause-tight c =
+pub returns : goal.returns
+returns c =
     let items : List Group = c.args.groups.now.items in
     let n_is : c.len-count.result ≡ length items = omega arith in
     let read : c.index_mut.result.now ≡ group_at items c.args.first = c.index_mut.ensures.value ∙ group-read items c.args.first c.index_mut.result.now c.requires.first in
+    let l = subst (λ (x : Group). Leaves items (slice_set items c.args.first (record x { reach = c.loop-reach.reach })) (entries_of items)) (sym read)
+    (lowered-leaves items c.requires.groups c.args.first c.loop-reach.reach c.requires.first c.loop-reach.invariant.less c.loop-reach.invariant.enough) in
     let ended : (c.loop-reach.reach ≡ 0) ⊎ ((lane : ℕ) × (lane < (group_at items (probe (length items) c.args.first c.loop-reach.reach)).count) × (home (length items) (lane_hash (group_at items (probe (length items) c.args.first c.loop-reach.reach)) lane) ≡ c.args.first)) =
     elim c.loop-reach-test.branch [
       | then-loop-reach-test+else-not-has_home w ↦
@@ -66,5 +55,10 @@ returns-clause-tight c =
           (subst (λ n. (lane : ℕ) × (lane < w.index-in-loop-reach.result.now.count) × (home n (lane_hash w.index-in-loop-reach.result.now lane) ≡ c.args.first)) n_is one))
       | else-loop-reach-test w ↦ inl (omega (arith, w.loop-reach-test.false))
     ] in
-    λ others. subst (λ (x : Group). IsTight (slice_set items c.args.first (record x { reach = c.loop-reach.reach }))) (sym read)
-    (lowered-tight items c.requires.groups c.args.first c.loop-reach.reach c.requires.first c.loop-reach.invariant.less c.loop-reach.invariant.enough ended others)
+    record {
+      groups = l.groups;
+      entries = l.entries;
+      len = l.len;
+      tight = λ others. subst (λ (x : Group). IsTight (slice_set items c.args.first (record x { reach = c.loop-reach.reach }))) (sym read)
+          (lowered-tight items c.requires.groups c.args.first c.loop-reach.reach c.requires.first c.loop-reach.invariant.less c.loop-reach.invariant.enough ended others);
+    }

@@ -1,32 +1,27 @@
-use Rattle.std.proofs.Common.{◌≡◌, ◌+◌, ◌/◌, ◌%◌, ◌<◌, ◌≤◌, None, [], length, sym, subst, arith}
+use Rattle.std.proofs.Common.{◌≡◌, ◌+◌, ◌/◌, ◌%◌, ◌<◌, ◌≤◌, None, length, sym, subst, arith}
 use Rattle.std.specs.FinMap as finite
 use Rattle.moka_index.specs.declared.group.Group.{Group}
 use Rattle.moka_index.specs.Group.{lane_place, lane_hash}
 use Rattle.moka_index.specs.Groups.{entries_of}
-use Rattle.moka_index.proofs.Moves.{Moved, group-read, moved-none, moved-past, moved-one, moved-fresh, moved-len, moved-all}
+use Rattle.moka_index.proofs.Lanes.{blank, group-read}
+use Rattle.moka_index.proofs.Moves.{Moved, moved-none, moved-past, moved-one, moved-fresh, moved-len, moved-all}
 use Rattle.moka_index.proofs.groups.move_entries.Goals.{then-lane-group, else-lane-group}
 use Rattle.moka_index.proofs.groups.move_entries.Goals as goal
-
-abbrev blank : Group
-blank = record { hashes = []; count = 0; places = []; reach = 0 }
 
 pub loop-q-init : goal.loop-q-init
 loop-q-init c = moved-none c.args.from.now c.args.to.now.items c.requires.to c.requires.few
 
-pub insert_entry-requires-clause-groups : goal.insert_entry-requires-clause-groups
-insert_entry-requires-clause-groups c = c.loop-q.invariant.groups
-
-pub insert_entry-requires-clause-fresh : goal.insert_entry-requires-clause-fresh
-insert_entry-requires-clause-fresh c =
+pub insert_entry-requires : goal.insert_entry-requires
+insert_entry-requires c =
     let in_q : c.loop-q.q / 7 < length c.args.from.now = omega (arith, c.loop-q-test.true) in
     let read = group-read c.args.from.now (c.loop-q.q / 7) blank in_q in
-    subst (λ (x : Group). finite.get (entries_of c.loop-q.to.items) (lane_place x (c.loop-q.q % 7)) ≡ None) (sym read)
-    (moved-fresh c.args.from.now c.loop-q.to.items (length c.args.to.now.items) c.loop-q.q c.requires.from c.loop-q.invariant (subst (λ (x : Group). c.loop-q.q % 7 < x.count) read c.if-lane-group.true))
-
-pub insert_entry-requires-clause-room : goal.insert_entry-requires-clause-room
-insert_entry-requires-clause-room c =
-    let l = moved-len c.args.from.now c.loop-q.to.items (length c.args.to.now.items) c.loop-q.q c.requires.from c.loop-q.invariant (omega (arith, c.loop-q-test.true)) in
-    omega (arith, l, c.requires.room, c.loop-q.invariant.len)
+    let few = moved-len c.args.from.now c.loop-q.to.items (length c.args.to.now.items) c.loop-q.q c.requires.from c.loop-q.invariant (omega (arith, c.loop-q-test.true)) in
+    record {
+      groups = c.loop-q.invariant.groups;
+      fresh = subst (λ (x : Group). finite.get (entries_of c.loop-q.to.items) (lane_place x (c.loop-q.q % 7)) ≡ None) (sym read)
+          (moved-fresh c.args.from.now c.loop-q.to.items (length c.args.to.now.items) c.loop-q.q c.requires.from c.loop-q.invariant (subst (λ (x : Group). c.loop-q.q % 7 < x.count) read c.if-lane-group.true));
+      room = omega (arith, few, c.requires.room, c.loop-q.invariant.len);
+    }
 
 pub loop-q-preserved : goal.loop-q-preserved
 loop-q-preserved c =
@@ -43,14 +38,10 @@ loop-q-preserved c =
           (moved-past c.args.from.now c.loop-q.to.items (length c.args.to.now.items) c.loop-q.q c.loop-q.invariant (subst (λ (x : Group). x.count ≤ c.loop-q.q % 7) read w.if-lane-group.false))
     ]
 
-pub returns-clause-groups : goal.returns-clause-groups
-returns-clause-groups c = c.loop-q.invariant.groups
-
-pub returns-clause-entries : goal.returns-clause-entries
-returns-clause-entries c = moved-all c.args.from.now c.loop-q.to.items (length c.args.to.now.items) c.loop-q.q c.loop-q.invariant (omega (arith, c.loop-q-test.false))
-
-pub returns-clause-len : goal.returns-clause-len
-returns-clause-len c = c.loop-q.invariant.len
-
-pub returns-clause-tight : goal.returns-clause-tight
-returns-clause-tight c = c.loop-q.invariant.tight
+pub returns : goal.returns
+returns c = record {
+  groups = c.loop-q.invariant.groups;
+  entries = moved-all c.args.from.now c.loop-q.to.items (length c.args.to.now.items) c.loop-q.q c.loop-q.invariant (omega (arith, c.loop-q-test.false));
+  len = c.loop-q.invariant.len;
+  tight = c.loop-q.invariant.tight;
+}

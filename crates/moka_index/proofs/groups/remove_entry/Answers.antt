@@ -1,10 +1,10 @@
-use Rattle.std.proofs.Common.{◌≡◌, ◌≢◌, ℕ, ◌+◌, ◌*◌, ◌<◌, ◌==◌, false, Some, length, ◌⊎◌, inl, inr, refl, sym, ap, subst, ◌∙◌, arith, rules}
+use Rattle.std.proofs.Common.{◌≡◌, ◌≢◌, ◌+◌, ◌*◌, ◌<◌, ◌==◌, false, Some, length, ◌⊎◌, inl, inr, refl, sym, ap, ◌∙◌, arith, rules}
 use Rattle.std.proofs.lemmas.Bool.{eq-eqb, true≢false}
 use Rattle.moka_index.specs.Group.{home}
 use Rattle.moka_index.specs.Groups.{entry_at, group_at, probe}
-use Rattle.moka_index.proofs.Probes.{home-lt}
+use Rattle.moka_index.proofs.Probes.{home-within}
 use Rattle.moka_index.proofs.Changes.{entry-found}
-use Rattle.moka_index.proofs.Moves.{group-read}
+use Rattle.moka_index.proofs.Lanes.{group-read}
 use Rattle.moka_index.proofs.Search.{others-exact, all-exact}
 use Rattle.moka_index.proofs.groups.remove_entry.Goals.{else-reach-gt0-via-then-reach-gt0+else-probe-found, else-reach-gt0-via-else-reach-gt0}
 use Rattle.moka_index.proofs.groups.remove_entry.Goals as goal
@@ -17,34 +17,20 @@ unreachable-requires c =
     let e : (c.args.place == c.args.place) ≡ false = search (rules, no) in
     true≢false (sym (eq-eqb c.args.place c.args.place refl) ∙ e)
 
-home-within : (n hash first : ℕ) → 0 < n → first ≡ home n hash → first < n
-home-within n hash first some e = subst (λ i. i < n) (sym e) (home-lt n hash some)
-
 pub index-requires : goal.index-requires
 index-requires c =
-    let some : 0 < c.len-count.result = omega (arith, c.in-Some.ensures.group, ap length c.deref.ensures.value, c.remove_found.ensures.len) in
-    let within = home-within c.len-count.result c.args.hash c.home-first.result some c.home-first.ensures in
-    omega (arith, within)
+    omega (arith, home-within c.len-count.result c.args.hash c.home-first.result (omega (arith, c.in-Some.ensures.group, ap length c.deref.ensures.value, c.remove_found.ensures.len)) c.home-first.ensures)
 
-pub probe-requires-clause-first : goal.probe-requires-clause-first
-probe-requires-clause-first c =
-    let some : 0 < c.len-count.result = omega (arith, c.in-Some.ensures.group, ap length c.deref.ensures.value, c.remove_found.ensures.len) in
-    home-within c.len-count.result c.args.hash c.home-first.result some c.home-first.ensures
-
-pub probe-requires-clause-step : goal.probe-requires-clause-step
-probe-requires-clause-step c =
-    let some : 0 < c.len-count.result = omega (arith, c.in-Some.ensures.group, ap length c.deref.ensures.value, c.remove_found.ensures.len) in
-    let within = home-within c.len-count.result c.args.hash c.home-first.result some c.home-first.ensures in
+pub probe-requires : goal.probe-requires
+probe-requires c =
+    let within = home-within c.len-count.result c.args.hash c.home-first.result (omega (arith, c.in-Some.ensures.group, ap length c.deref.ensures.value, c.remove_found.ensures.len)) c.home-first.ensures in
     let less = (c.remove_found.ensures.groups.shaped c.home-first.result).reach (omega arith) in
-    let read : c.index.result.now ≡ group_at c.remove_found.new.groups.items c.home-first.result = c.index.ensures ∙ group-read c.remove_found.new.groups.items c.home-first.result c.index.result.now (omega (arith, within)) in
-    let reach = ap (λ g. g.reach) read in
-    omega (arith, reach, less)
+    let read = c.index.ensures ∙ group-read c.remove_found.new.groups.items c.home-first.result c.index.result.now (omega (arith, within)) in
+    record { first = within; step = omega (arith, ap (λ g. g.reach) read, less); count = omega (arith, c.remove_found.ensures.groups.bounded) }
 
 pub lower_reach-requires-clause-first : goal.lower_reach-requires-clause-first
 lower_reach-requires-clause-first c =
-    let some : 0 < c.len-count.result = omega (arith, c.in-Some.ensures.group, ap length c.deref.ensures.value, c.remove_found.ensures.len) in
-    let within = home-within c.len-count.result c.args.hash c.home-first.result some c.home-first.ensures in
-    omega (arith, within)
+    omega (arith, home-within c.len-count.result c.args.hash c.home-first.result (omega (arith, c.in-Some.ensures.group, ap length c.deref.ensures.value, c.remove_found.ensures.len)) c.home-first.ensures)
 
 pub returns-then-probe-found-clause-tight : goal.returns-then-probe-found-clause-tight
 returns-then-probe-found-clause-tight c =
@@ -60,8 +46,7 @@ returns-else-reach-gt0-clause-tight c =
     let at : entry_at old (7 * c.in-Some.found.group + c.in-Some.found.lane) ≡ Some (c.in-Some.found.place, c.args.hash) = ap (λ x. entry_at x (7 * c.in-Some.found.group + c.in-Some.found.lane)) (sym c.deref.ensures.value) ∙ c.in-Some.ensures.found in
     let n_is : c.len-count.result ≡ length mid = omega arith in
     let first_is = c.home-first.ensures ∙ ap (λ n. home n c.args.hash) n_is in
-    let some : 0 < c.len-count.result = omega (arith, c.in-Some.ensures.group, ap length c.deref.ensures.value, c.remove_found.ensures.len) in
-    let within = home-within c.len-count.result c.args.hash c.home-first.result some c.home-first.ensures in
+    let within = home-within c.len-count.result c.args.hash c.home-first.result (omega (arith, c.in-Some.ensures.group, ap length c.deref.ensures.value, c.remove_found.ensures.len)) c.home-first.ensures in
     let first_in : c.home-first.result < length mid = omega (arith, within) in
     let group_in : c.in-Some.found.group < length mid = omega (arith, c.in-Some.ensures.group, ap length c.deref.ensures.value, c.remove_found.ensures.len) in
     let reach : c.index.result.now.reach ≡ (group_at mid c.home-first.result).reach = ap (λ g. g.reach) (c.index.ensures ∙ group-read mid c.home-first.result c.index.result.now first_in) in

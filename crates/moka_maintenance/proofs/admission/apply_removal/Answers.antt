@@ -1,13 +1,18 @@
-use Rattle.std.proofs.Common.{◌≡◌, is_some, refl, sym, ap, ◌∙◌, true≢false, arith}
+use Rattle.std.proofs.Common.{◌≡◌, is_some, refl, sym, ap, ◌∙◌, true≢false, arith, ℕ}
 use Rattle.std.specs.FinMap as finite
-use Rattle.moka_parts.specs.Records.{counted_of}
+use Rattle.moka_parts.specs.Records.{counted_of, without_member, without_number}
 use Rattle.moka_parts.proofs.AccessList.{absent_taken_out, counted_taken_out}
-use Rattle.moka_store.specs.Store.{Kept}
+use Rattle.moka_store.specs.Store.{Kept, cursor_past}
 use Rattle.moka_parts.proofs.WriteList.{unlisted_taken_out}
-use Rattle.moka_maintenance.proofs.Timing.{keeps-left}
-use Rattle.moka_maintenance.proofs.Upkeep.{upkeep-none}
-use Rattle.moka_maintenance.proofs.Placed.{no_row, places-gone, rows-unplaced, rows-forgotten}
+use Rattle.moka_maintenance.proofs.Upkeep.{upkeep-none, upkeep-left}
+use Rattle.moka_maintenance.proofs.Placed.{no_row, rows-unplaced, rows-forgotten}
 use Rattle.moka_maintenance.proofs.admission.apply_removal.Goals as goal
+use Rattle.moka_store.proofs.Gets.{after_remove}
+
+-- the number has left the orders and the timers, and then its row is given back
+forgotten : {K V S : Type 0} (old mid new : Kept K V S) (n : ℕ) → mid ≡ record old { access = without_member n old.access; written = without_number n old.written; timers = finite.remove old.timers n; cursor = cursor_past n old.written old.cursor } → new ≡ record mid { places = finite.remove mid.places n; room = new.room }
+    → new ≡ record old { access = without_member n old.access; written = without_number n old.written; timers = finite.remove old.timers n; cursor = cursor_past n old.written old.cursor; places = finite.remove old.places n; room = new.room }
+forgotten {K} {V} {S} old mid new n left step = step ∙ ap (λ (k : Kept K V S). record k { places = finite.remove k.places n; room = new.room }) left
 
 pub returns-then-not-has_row-clause-step : goal.returns-then-not-has_row-clause-step
 returns-then-not-has_row-clause-step g c =
@@ -26,10 +31,8 @@ forget-requires-clause-apart g c = rw c.leave.ensures (counted_taken_out c.args.
 
 pub returns-then-is_none-clause-rows : goal.returns-then-is_none-clause-rows
 returns-then-is_none-clause-rows g c = λ generation.
-    let step = ap (λ (k : Kept g.row.K.Denot g.row.V.Denot g.row.S.Denot). k.places) c.forget.ensures.step in
-    let left : finite.remove c.leave.new.store.places c.args.handle.number ≡ finite.remove c.args.store.now.places c.args.handle.number = ap (λ (k : Kept g.row.K.Denot g.row.V.Denot g.row.S.Denot). finite.remove k.places c.args.handle.number) c.leave.ensures in
-    let records = c.forget.ensures.records ∙ ap (λ (k : Kept g.row.K.Denot g.row.V.Denot g.row.S.Denot). k.records) c.leave.ensures in
-    rows-forgotten c.args.store.now c.forget.new.self c.args.handle.number generation records (step ∙ left)
+    let whole = forgotten c.args.store.now c.leave.new.store c.forget.new.self c.args.handle.number c.leave.ensures c.forget.ensures.step in
+    rows-forgotten c.args.store.now c.forget.new.self c.args.handle.number generation (ap (λ (k : Kept g.row.K.Denot g.row.V.Denot g.row.S.Denot). k.records) whole) (ap (λ (k : Kept g.row.K.Denot g.row.V.Denot g.row.S.Denot). k.places) whole)
 
 pub returns-then-not-has_row-clause-written : goal.returns-then-not-has_row-clause-written
 returns-then-not-has_row-clause-written g c = λ kept.
@@ -46,26 +49,12 @@ returns-then-not-has_row-clause-upkeep g c = upkeep-none c.args.store.now
 
 pub returns-then-is_none-clause-upkeep : goal.returns-then-is_none-clause-upkeep
 returns-then-is_none-clause-upkeep g c =
-    let step = ap (λ (k : Kept g.row.K.Denot g.row.V.Denot g.row.S.Denot). k.places) c.forget.ensures.step in
-    let left : finite.remove c.leave.new.store.places c.args.handle.number ≡ finite.remove c.args.store.now.places c.args.handle.number = ap (λ (k : Kept g.row.K.Denot g.row.V.Denot g.row.S.Denot). finite.remove k.places c.args.handle.number) c.leave.ensures in
-    let records = c.forget.ensures.records ∙ ap (λ (k : Kept g.row.K.Denot g.row.V.Denot g.row.S.Denot). k.records) c.leave.ensures in
+    let old = c.args.store.now in
+    let n = c.args.handle.number in
     let same = ap (λ (k : Kept g.row.K.Denot g.row.V.Denot g.row.S.Denot). k.room) c.leave.ensures in
     let more = c.forget.ensures.room in
-    record {
-      timers = keeps-left c.args.store.now c.leave.new.store c.forget.new.self c.args.handle.number (finite.remove c.leave.new.store.places c.args.handle.number) c.leave.ensures c.forget.ensures.step;
-      places = places-gone c.args.store.now c.forget.new.self c.args.handle.number (step ∙ left);
-      rows = λ n p _ gone. sym (ap (λ m. finite.get m n) records) ∙ gone;
-      room = omega arith;
-    }
+    upkeep-left old c.forget.new.self n c.forget.new.self.room (finite.remove old.places n) (forgotten c.args.store.now c.leave.new.store c.forget.new.self c.args.handle.number c.leave.ensures c.forget.ensures.step) (λ k p at. (after_remove old.places n k p at).1) (omega arith)
 
 pub returns-else-is_none-clause-upkeep : goal.returns-else-is_none-clause-upkeep
 returns-else-is_none-clause-upkeep g c =
-    let old = c.args.store.now in
-    let left = c.leave.ensures in
-    let same = ap (λ (k : Kept g.row.K.Denot g.row.V.Denot g.row.S.Denot). k.room) left in
-    record {
-      timers = keeps-left c.args.store.now c.leave.new.store c.leave.new.store c.args.handle.number c.leave.new.store.places c.leave.ensures refl;
-      places = λ n p at. sym (ap (λ (k : Kept g.row.K.Denot g.row.V.Denot g.row.S.Denot). finite.get k.places n) left) ∙ at;
-      rows = λ n p _ gone. sym (ap (λ (k : Kept g.row.K.Denot g.row.V.Denot g.row.S.Denot). finite.get k.records n) left) ∙ gone;
-      room = omega arith;
-    }
+    upkeep-left c.args.store.now c.leave.new.store c.args.handle.number c.args.store.now.room c.args.store.now.places c.leave.ensures (λ k p at. at) (omega arith)

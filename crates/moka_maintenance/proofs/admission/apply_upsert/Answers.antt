@@ -3,10 +3,8 @@ use Rattle.std.specs.FinMap as finite
 use Rattle.moka_parts.specs.Records.{number_to_back}
 use Rattle.moka_store.specs.Store.{Kept}
 use Rattle.moka_maintenance.specs.Steps.{contents_with}
-use Rattle.moka_maintenance.proofs.AllApplied.{applies-upsert}
-use Rattle.moka_maintenance.proofs.Fates.{applied-absent, applied-overtaken, applied-counted}
-use Rattle.moka_maintenance.proofs.Entered.{entered-recounted, entered-upkeep}
-use Rattle.moka_maintenance.proofs.Upkeep.{upkeep-none}
+use Rattle.moka_maintenance.proofs.Fates.{applied-absent, applied-overtaken, applied-counted, applies-upsert, entered-recounted}
+use Rattle.moka_maintenance.proofs.Upkeep.{upkeep-none, entered-upkeep}
 use Rattle.moka_maintenance.proofs.Placed.{no_row}
 use Rattle.moka_maintenance.proofs.admission.apply_upsert.Goals as goal
 

@@ -1,8 +1,8 @@
 use Rattle.std.proofs.Common.{IsSome, sym, ap, subst, ◌∙◌}
 use Rattle.std.specs.FinMap as finite
 use Rattle.moka_store.specs.Store.{Kept}
-use Rattle.moka_maintenance.proofs.Compared.{still_apart, upkeep-chosen, compared-preferred, compared-refused}
 use Rattle.moka_maintenance.proofs.Upkeep.{upkeep-on}
+use Rattle.moka_maintenance.proofs.Fates.{still_apart, upkeep-chosen, compared-preferred, compared-refused}
 use Rattle.moka_maintenance.proofs.admission.compare.Goals as goal
 
 pub enter-requires : goal.enter-requires

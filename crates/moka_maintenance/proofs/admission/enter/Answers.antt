@@ -3,7 +3,7 @@ use Rattle.std.specs.FinMap as finite
 use Rattle.moka_parts.specs.Records.{entered_by}
 use Rattle.moka_store.specs.Store.{Kept}
 use Rattle.moka_store.proofs.Gets.{some_is}
-use Rattle.moka_maintenance.proofs.Entered.{entered-upkeep}
+use Rattle.moka_maintenance.proofs.Upkeep.{entered-upkeep}
 use Rattle.moka_maintenance.proofs.admission.enter.Goals as goal
 
 pub returns-clause-written : goal.returns-clause-written

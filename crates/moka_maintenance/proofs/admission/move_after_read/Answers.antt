@@ -3,8 +3,8 @@ use Rattle.std.specs.FinMap as finite
 use Rattle.moka_store.proofs.Gets.{none_by_test, some_is}
 use Rattle.moka_store.proofs.Members.{absent_to_back}
 use Rattle.moka_maintenance.specs.Timers.{StandsAtExpiry}
-use Rattle.moka_maintenance.proofs.Timing.{keeps-moved, keeps-on, stands-set, stands-past, stands-moved}
-use Rattle.moka_maintenance.proofs.Upkeep.{upkeep-timed}
+use Rattle.moka_maintenance.proofs.Timing.{keeps-on, stands-set, stands-past, stands-moved}
+use Rattle.moka_maintenance.proofs.Upkeep.{upkeep-timed, untimed-moved}
 use Rattle.moka_maintenance.proofs.admission.move_after_read.Goals as goal
 
 pub returns-then-renewed-clause-served : goal.returns-then-renewed-clause-served
@@ -22,7 +22,7 @@ returns-then-renewed-clause-served g c =
       rest = rw (c.set_timer.ensures.rest, step) refl;
       renewed = λ k is. subst (λ m. StandsAtExpiry m new) (sym is.0) (stands-set mid new n found.0 there set);
       kept = λ k stands. stands-past mid new n found.0 there set k (stands-moved old mid step counted k stands);
-      timers = keeps-on old mid new (keeps-moved old mid step counted) (upkeep-timed mid new n found.0 there set).timers;
+      timers = keeps-on old mid new (untimed-moved old mid step counted).keeps.timers (upkeep-timed mid new n found.0 there set).timers;
     }
 
 pub returns-else-is_member-clause-access : goal.returns-else-is_member-clause-access

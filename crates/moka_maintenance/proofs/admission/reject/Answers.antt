@@ -1,15 +1,11 @@
-use Rattle.std.proofs.Common.{◌≡◌, sym, ap, ◌∙◌, arith, is_some}
-use Rattle.std.specs.FinMap as finite
+use Rattle.std.proofs.Common.{◌≡◌, sym, ap, ◌∙◌, is_some}
 use Rattle.std.proofs.lemmas.Bool.{eq-eqb}
-use Rattle.moka_parts.specs.Records.{counted_of, is_member}
 use Rattle.moka_store.specs.Store.{Kept}
 use Rattle.moka_maintenance.proofs.Fates.{rejected-gone}
-use Rattle.moka_maintenance.proofs.Placed.{rows-changed}
 use Rattle.moka_maintenance.specs.Steps.{Stock, contents_in}
-use Rattle.moka_maintenance.proofs.Timing.{keeps-outside}
 use Rattle.moka_parts.proofs.WriteList.{unlisted_taken_out}
-use Rattle.moka_store.proofs.Gets.{get-past_insert}
 use Rattle.moka_maintenance.proofs.admission.reject.Goals as goal
+use Rattle.moka_maintenance.proofs.Upkeep.{upkeep-outside}
 
 pub returns-then-generation-clause-step : goal.returns-then-generation-clause-step
 returns-then-generation-clause-step g c = λ r found.
@@ -31,19 +27,8 @@ returns-then-generation-clause-upkeep g c = c.expel.ensures.upkeep.keeps
 
 pub returns-else-generation-clause-upkeep : goal.returns-else-generation-clause-upkeep
 returns-else-generation-clause-upkeep g c =
-    let n = c.args.handle.number in
-    let step = c.set_applied.ensures.step c.in-Some.present (sym (c.in-Some.ensures.found c.requires.handle.placed)) in
-    let room = ap (λ (k : Kept g.row.K.Denot g.row.V.Denot g.row.S.Denot). k.room) step in
-    record {
-      timers = keeps-outside c.args.store.now c.set_applied.new.self (ap (λ (k : Kept g.row.K.Denot g.row.V.Denot g.row.S.Denot). k.ordered) step) (ap (λ (k : Kept g.row.K.Denot g.row.V.Denot g.row.S.Denot). k.timed) step) (ap (λ (k : Kept g.row.K.Denot g.row.V.Denot g.row.S.Denot). k.hasher) step) n
-          (ap (λ (k : Kept g.row.K.Denot g.row.V.Denot g.row.S.Denot). counted_of n k.access) step ∙ c.requires.apart)
-          (λ k other. ap (λ (s : Kept g.row.K.Denot g.row.V.Denot g.row.S.Denot). finite.get s.records k) step ∙ get-past_insert c.args.store.now.records n (record c.in-Some.present { applied = c.args.generation }) k other)
-          (λ k is_in. sym (ap (λ (s : Kept g.row.K.Denot g.row.V.Denot g.row.S.Denot). is_member k s.access) step) ∙ is_in)
-          (λ k _. ap (λ (s : Kept g.row.K.Denot g.row.V.Denot g.row.S.Denot). finite.get s.timers k) step);
-      places = λ k p at. sym (ap (λ m. finite.get m k) c.set_applied.ensures.places) ∙ at;
-      rows = rows-changed c.args.store.now c.set_applied.new.self n (record c.in-Some.present { applied = c.args.generation }) (ap (λ (k : Kept g.row.K.Denot g.row.V.Denot g.row.S.Denot). k.records) step);
-      room = omega arith;
-    }
+    upkeep-outside c.args.store.now c.set_applied.new.self c.args.handle.number (record c.in-Some.present { applied = c.args.generation }) c.requires.apart
+    (c.set_applied.ensures.step c.in-Some.present (sym (c.in-Some.ensures.found c.requires.handle.placed)))
 
 pub returns-then-generation-clause-told : goal.returns-then-generation-clause-told
 returns-then-generation-clause-told g c = λ r found.

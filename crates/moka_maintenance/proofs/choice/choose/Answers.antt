@@ -1,4 +1,4 @@
-use Rattle.std.proofs.Common.{◌≡◌, refl, ℕ, ◌+◌, ◌-◌, ◌<◌, ◌≤◌, ◌&&◌, ◌⊎◌, inl, inr, true, false, None, Some, Option, IfSome, IsSome, List, option_map, nat_le, nat_lt, length, ap, sym, subst, ◌∙◌, arith}
+use Rattle.std.proofs.Common.{◌≡◌, refl, ℕ, ◌+◌, ◌<◌, ◌≤◌, ◌&&◌, ◌⊎◌, inl, inr, true, false, None, Some, Option, IfSome, IsSome, List, option_map, nat_le, nat_lt, length, ap, sym, subst, ◌∙◌, arith}
 use Rattle.std.specs.FinMap.{FinMap, get}
 use Rattle.std.specs.Ordering.{nat_cmp}
 use Rattle.moka_sketch.specs.Frequency.{frequency}
@@ -9,7 +9,7 @@ use Rattle.moka_store.specs.Store.{Kept}
 use Rattle.moka_store.specs.declared.store.Handle.{Handle}
 use Rattle.moka_maintenance.specs.Chosen.{Chooses}
 use Rattle.moka_maintenance.specs.Steps.{contents_with}
-use Rattle.moka_maintenance.proofs.Walking.{Walks, walks-none, walks-settled, walks-left, walks-unsettled, walks-as, walks-over}
+use Rattle.moka_maintenance.proofs.Walking.{Walks, walks-none, walks-settled, walks-unsettled, walks-as, walks-over}
 use Rattle.moka_maintenance.proofs.choice.choose.Goals as goal
 use Rattle.moka_maintenance.proofs.choice.choose.Goals.{then-loop-weights-test+then-frequencies-frequency+else-unsettled-lt-MOST_UNSETTLED, then-loop-weights-test+else-frequencies-frequency, else-loop-weights-test, then-loop-weights-test+then-frequencies-frequency+then-unsettled-lt-MOST_UNSETTLED+in_default}
 
@@ -41,14 +41,11 @@ loop-weights-init g c =
 
 pub loop-weights-smaller-in-Some-frequency_of : goal.loop-weights-smaller-in-Some-frequency_of
 loop-weights-smaller-in-Some-frequency_of g c =
-    let k = contents_with c.args.sketch.now c.args.store.now in
     let inv = c.loop-weights.invariant in
-    let l = c.loop-weights in
-    let walk : Walks k c.from-weight.result c.args.hash l.store.access (Some (member c.in-Some.handle.number c.in-Some.counted)) l.victims l.weights l.frequencies l.unsettled l.ahead =
-    subst (λ o. Walks k c.from-weight.result c.args.hash l.store.access (named o) l.victims l.weights l.frequencies l.unsettled l.ahead) c.in-Some.is inv.walks in
-    let is = ap (λ (s : Kept g.row.K.Denot g.row.V.Denot g.row.S.Denot). is_settled s.records c.in-Some.handle.number) (sym inv.rest) ∙ c.in-Some-frequency_of.ensures.0 in
-    let some = walks-left k c.from-weight.result c.args.hash c.invariant_holds.ensures.distinct l.store.access (member c.in-Some.handle.number c.in-Some.counted) l.victims l.weights l.frequencies l.unsettled l.ahead walk
-    c.loop-weights-test.true c.if-unsettled-lt-MOST_UNSETTLED.true (named c.next-next.result) c.next-next.ensures.next is in
+    let a = member c.in-Some.handle.number c.in-Some.counted in
+    let is = ap (λ (s : Kept g.row.K.Denot g.row.V.Denot g.row.S.Denot). is_settled s.records a.number) (sym inv.rest) ∙ c.in-Some-frequency_of.ensures.0 in
+    let some = (walks-settled (contents_with c.args.sketch.now c.args.store.now) c.from-weight.result c.args.hash c.invariant_holds.ensures.distinct a inv.walks (ap named c.in-Some.is)
+    c.loop-weights-test.true c.if-unsettled-lt-MOST_UNSETTLED.true (named c.next-next.result) c.next-next.ensures.next is).0 in
     let less = c.saturating_sub-ahead.ensures in
     omega arith
 
@@ -56,44 +53,36 @@ pub loop-weights-preserved-in-Some-frequency_of : goal.loop-weights-preserved-in
 loop-weights-preserved-in-Some-frequency_of g c =
     let k = contents_with c.args.sketch.now c.args.store.now in
     let inv = c.loop-weights.invariant in
-    let l = c.loop-weights in
     let a = member c.in-Some.handle.number c.in-Some.counted in
-    let walk : Walks k c.from-weight.result c.args.hash l.store.access (Some a) l.victims l.weights l.frequencies l.unsettled l.ahead =
-    subst (λ o. Walks k c.from-weight.result c.args.hash l.store.access (named o) l.victims l.weights l.frequencies l.unsettled l.ahead) c.in-Some.is inv.walks in
-    let is = ap (λ (s : Kept g.row.K.Denot g.row.V.Denot g.row.S.Denot). is_settled s.records c.in-Some.handle.number) (sym inv.rest) ∙ c.in-Some-frequency_of.ensures.0 in
+    let is = ap (λ (s : Kept g.row.K.Denot g.row.V.Denot g.row.S.Denot). is_settled s.records a.number) (sym inv.rest) ∙ c.in-Some-frequency_of.ensures.0 in
     let seen = c.from.ensures ∙ c.in-Some-frequency_of.ensures.1 c.in-Some.counted ∙ ap (λ (s : Kept g.row.K.Denot g.row.V.Denot g.row.S.Denot). frequency c.args.sketch.now (hash_of (contents_with c.args.sketch.now s) a)) inv.rest in
-    let some = walks-left k c.from-weight.result c.args.hash c.invariant_holds.ensures.distinct l.store.access a l.victims l.weights l.frequencies l.unsettled l.ahead walk
+    let on = walks-settled k c.from-weight.result c.args.hash c.invariant_holds.ensures.distinct a inv.walks (ap named c.in-Some.is)
     c.loop-weights-test.true c.if-unsettled-lt-MOST_UNSETTLED.true (named c.next-next.result) c.next-next.ensures.next is in
     record {
-      walks =
-          walks-as k c.from-weight.result c.args.hash l.store.access (named c.next-next.result) (l.victims + 1) (l.weights + a.counted) (l.frequencies + frequency c.args.sketch.now (hash_of k a)) 0 (l.ahead - 1) c.with_weight-weights.result (l.frequencies + c.from.result) c.saturating_sub-ahead.result
-          c.with_weight-weights.ensures (ap (λ n. l.frequencies + n) seen) c.saturating_sub-ahead.ensures
-          (walks-settled k c.from-weight.result c.args.hash c.invariant_holds.ensures.distinct l.store.access a l.victims l.weights l.frequencies l.unsettled l.ahead walk
-          c.loop-weights-test.true c.if-unsettled-lt-MOST_UNSETTLED.true (named c.next-next.result) c.next-next.ensures.next is);
+      walks = walks-as k c.from-weight.result c.args.hash c.with_weight-weights.ensures (ap (λ n. c.loop-weights.frequencies + n) seen) c.saturating_sub-ahead.ensures on.1;
       placed = c.next-next.ensures.placed;
       member = c.next-next.ensures.member;
       rest = inv.rest;
-      few = (let less = c.saturating_sub-ahead.ensures in let few = inv.few in omega arith);
+      few = (let less = c.saturating_sub-ahead.ensures in let few = inv.few in let some = on.0 in omega arith);
     }
 
 pub loop-weights-preserved : goal.loop-weights-preserved
 loop-weights-preserved g c =
     let k = contents_with c.args.sketch.now c.args.store.now in
     let inv = c.loop-weights.invariant in
-    let l = c.loop-weights in
+    let access = c.loop-weights.store.access in
     let a = member c.in-Some.handle.number c.in-Some.counted in
-    let walk : Walks k c.from-weight.result c.args.hash l.store.access (Some a) l.victims l.weights l.frequencies l.unsettled l.ahead =
-    subst (λ o. Walks k c.from-weight.result c.args.hash l.store.access (named o) l.victims l.weights l.frequencies l.unsettled l.ahead) c.in-Some.is inv.walks in
-    let is = ap (λ (s : Kept g.row.K.Denot g.row.V.Denot g.row.S.Denot). is_settled s.records c.in-Some.handle.number) (sym inv.rest) ∙ c.in-None.ensures in
+    let is = ap (λ (s : Kept g.row.K.Denot g.row.V.Denot g.row.S.Denot). is_settled s.records a.number) (sym inv.rest) ∙ c.in-None.ensures in
     let step = c.move_in_access.ensures.step in
+    let moved = ap (λ (s : Kept g.row.K.Denot g.row.V.Denot g.row.S.Denot). s.access) step in
     record {
       walks =
-          walks-as k c.from-weight.result c.args.hash c.move_in_access.new.self.access (named c.next-next.result) l.victims l.weights l.frequencies (l.unsettled + 1) (l.ahead - 1) l.weights l.frequencies c.saturating_sub-ahead.result refl refl c.saturating_sub-ahead.ensures
-          (walks-unsettled k c.from-weight.result c.args.hash c.invariant_holds.ensures.distinct l.store.access a l.victims l.weights l.frequencies l.unsettled l.ahead walk
-          c.loop-weights-test.true c.if-unsettled-lt-MOST_UNSETTLED.true (named c.next-next.result) c.next-next.ensures.next c.move_in_access.new.self.access (ap (λ (s : Kept g.row.K.Denot g.row.V.Denot g.row.S.Denot). s.access) step) is);
+          walks-as k c.from-weight.result c.args.hash refl refl c.saturating_sub-ahead.ensures
+          (walks-unsettled k c.from-weight.result c.args.hash c.invariant_holds.ensures.distinct a inv.walks (ap named c.in-Some.is)
+          c.loop-weights-test.true c.if-unsettled-lt-MOST_UNSETTLED.true (named c.next-next.result) c.next-next.ensures.next c.move_in_access.new.self.access moved is);
       placed = some_placed c.next-next.result (sym c.move_in_access.ensures.places) c.next-next.ensures.placed;
-      member = some_counted c.next-next.result l.store.access c.move_in_access.new.self.access c.move_in_access.ensures.counted c.next-next.ensures.member;
-      rest = step ∙ ap (λ (s : Kept g.row.K.Denot g.row.V.Denot g.row.S.Denot). record s { access = to_back a.number l.store.access }) inv.rest ∙ ap (λ xs. record c.args.store.now { access = xs }) (sym (ap (λ (s : Kept g.row.K.Denot g.row.V.Denot g.row.S.Denot). s.access) step));
+      member = some_counted c.next-next.result access c.move_in_access.new.self.access c.move_in_access.ensures.counted c.next-next.ensures.member;
+      rest = step ∙ ap (λ (s : Kept g.row.K.Denot g.row.V.Denot g.row.S.Denot). record s { access = to_back a.number access }) inv.rest ∙ ap (λ xs. record c.args.store.now { access = xs }) (sym moved);
       few = (let less = c.saturating_sub-ahead.ensures in let few = inv.few in omega arith);
     }
 
@@ -105,7 +94,7 @@ returns-then-weights-weight-clause-chosen g c =
     let heavy : nat_le c.from-weight.result l.weights ≡ true = (let enough = c.if-weights-weight.true in grind arith) in
     subst (Chooses k c.args.weight c.args.hash l.store.access l.victims) (ap (λ b. b && nat_lt l.frequencies (frequency c.args.sketch.now c.args.hash)) heavy ∙ ap (nat_lt l.frequencies) (sym seen))
     (subst (λ w. Chooses k w c.args.hash l.store.access l.victims (nat_le c.from-weight.result l.weights && nat_lt l.frequencies (frequency c.args.sketch.now c.args.hash))) c.from-weight.ensures
-    (walks-over k c.from-weight.result c.args.hash c.invariant_holds.ensures.distinct l.store.access (named l.next) l.victims l.weights l.frequencies l.unsettled l.ahead l.invariant.walks (inl c.if-weights-weight.true)))
+    (walks-over k c.from-weight.result c.args.hash c.invariant_holds.ensures.distinct l.invariant.walks (inl c.if-weights-weight.true)))
 
 pub returns-else-weights-weight-clause-chosen : goal.returns-else-weights-weight-clause-chosen
 returns-else-weights-weight-clause-chosen g c =
@@ -122,4 +111,4 @@ returns-else-weights-weight-clause-chosen g c =
     ] in
     subst (Chooses k c.args.weight c.args.hash l.store.access l.victims) (ap (λ b. b && nat_lt l.frequencies (frequency c.args.sketch.now c.args.hash)) not_heavy ∙ sym not_heavy)
     (subst (λ w. Chooses k w c.args.hash l.store.access l.victims (nat_le c.from-weight.result l.weights && nat_lt l.frequencies (frequency c.args.sketch.now c.args.hash))) c.from-weight.ensures
-    (walks-over k c.from-weight.result c.args.hash c.invariant_holds.ensures.distinct l.store.access (named l.next) l.victims l.weights l.frequencies l.unsettled l.ahead l.invariant.walks over))
+    (walks-over k c.from-weight.result c.args.hash c.invariant_holds.ensures.distinct l.invariant.walks over))

@@ -29,29 +29,23 @@ overflow_add-removed g c =
 
 pub loop-handle-smaller-then-expire : goal.loop-handle-smaller-then-expire
 loop-handle-smaller-then-expire g c =
-    let n = c.in-Some.handle.number in
     let due = c.in-Some.ensures.due in
-    fewer-due g.L.Listener.tells c.args.tests c.loop-handle.store c.due.new.self c.expire.new.store c.loop-handle.notifier c.expire.new.notifier n 1 c.in-Some.ensures.step c.if-expire.ensures.reset c.if-expire.ensures.expired
-    due.0 due.1 due.2 (ap (λ (k : Kept g.row.K.Denot g.row.V.Denot g.row.S.Denot). finite.get k.timers n) c.in-Some.ensures.step ∙ get-removed c.loop-handle.store.timers n)
+    fewer-due c.args.tests.now.0 c.in-Some.handle.number c.loop-handle.store c.expire.new.store (rw c.in-Some.ensures.step at c.if-expire.ensures.reset) due.0 due.1 due.2
 
 pub loop-handle-smaller : goal.loop-handle-smaller
 loop-handle-smaller g c =
-    let n = c.in-Some.handle.number in
     let due = c.in-Some.ensures.due in
-    fewer-due g.L.Listener.tells c.args.tests c.loop-handle.store c.due.new.self c.expire.new.store c.loop-handle.notifier c.expire.new.notifier n 0 c.in-Some.ensures.step c.if-expire.ensures.reset c.if-expire.ensures.expired
-    due.0 due.1 due.2 (ap (λ (k : Kept g.row.K.Denot g.row.V.Denot g.row.S.Denot). finite.get k.timers n) c.in-Some.ensures.step ∙ get-removed c.loop-handle.store.timers n)
+    fewer-due c.args.tests.now.0 c.in-Some.handle.number c.loop-handle.store c.expire.new.store (rw c.in-Some.ensures.step at c.if-expire.ensures.reset) due.0 due.1 due.2
 
 pub loop-handle-preserved-then-expire : goal.loop-handle-preserved-then-expire
 loop-handle-preserved-then-expire g c =
     let inv = c.loop-handle.invariant in
     let step = c.in-Some.ensures.step in
     let old = c.loop-handle.store in
-    let mid = c.due.new.self in
     let new = c.expire.new.store in
-    let made = c.if-expire.ensures in
     record {
-      expired = expires-on g.L.Listener.tells c.args.tests (stock_in c.args.store.now) (stock_in old) (stock_in new) c.args.notifier.now c.loop-handle.notifier c.expire.new.notifier c.loop-handle.removed 1 inv.expired (rw (← ap stock_in step) made.expired);
-      upkeep = upkeep-on c.args.store.now old new inv.upkeep (upkeep-due g.L.Listener.tells c.args.tests old mid new c.loop-handle.notifier c.expire.new.notifier c.in-Some.handle.number 1 step made.reset made.expired);
+      expired = expires-on g.L.Listener.tells c.args.tests (stock_in c.args.store.now) (stock_in old) (stock_in new) c.args.notifier.now c.loop-handle.notifier c.expire.new.notifier c.loop-handle.removed 1 inv.expired (rw (← ap stock_in step) c.if-expire.ensures.expired);
+      upkeep = upkeep-on c.args.store.now old new inv.upkeep (upkeep-due c.args.tests.now.0 c.in-Some.handle.number old new (rw step at c.if-expire.ensures.reset));
     }
 
 pub loop-handle-preserved : goal.loop-handle-preserved
@@ -59,10 +53,9 @@ loop-handle-preserved g c =
     let inv = c.loop-handle.invariant in
     let step = c.in-Some.ensures.step in
     let old = c.loop-handle.store in
-    let mid = c.due.new.self in
     let new = c.expire.new.store in
-    let made = c.if-expire.ensures in
+    let same : c.loop-handle.removed + 0 ≡ c.loop-handle.removed = omega arith in
     record {
-      expired = (let same : c.loop-handle.removed + 0 ≡ c.loop-handle.removed = omega arith in subst (λ (k : ℕ). ExpiresDue g.L.Listener.tells c.args.tests (stock_in c.args.store.now) (stock_in new) c.args.notifier.now c.expire.new.notifier k) same (expires-on g.L.Listener.tells c.args.tests (stock_in c.args.store.now) (stock_in old) (stock_in new) c.args.notifier.now c.loop-handle.notifier c.expire.new.notifier c.loop-handle.removed 0 inv.expired (rw (← ap stock_in step) made.expired)));
-      upkeep = upkeep-on c.args.store.now old new inv.upkeep (upkeep-due g.L.Listener.tells c.args.tests old mid new c.loop-handle.notifier c.expire.new.notifier c.in-Some.handle.number 0 step made.reset made.expired);
+      expired = subst (λ (k : ℕ). ExpiresDue g.L.Listener.tells c.args.tests (stock_in c.args.store.now) (stock_in new) c.args.notifier.now c.expire.new.notifier k) same (expires-on g.L.Listener.tells c.args.tests (stock_in c.args.store.now) (stock_in old) (stock_in new) c.args.notifier.now c.loop-handle.notifier c.expire.new.notifier c.loop-handle.removed 0 inv.expired (rw (← ap stock_in step) c.if-expire.ensures.expired));
+      upkeep = upkeep-on c.args.store.now old new inv.upkeep (upkeep-due c.args.tests.now.0 c.in-Some.handle.number old new (rw step at c.if-expire.ensures.reset));
     }

@@ -1,9 +1,8 @@
-use Rattle.std.proofs.Common.{arith, rules, Bool, ◌+◌, ◌||◌, option_map, subst, sym, ◌∙◌}
+use Rattle.std.proofs.Common.{arith, rules, Bool, option_map, subst, sym, ◌∙◌, refl, true, false, true≢false, ◌+◌}
 use Rattle.std.specs.Duration.{as_nanos}
 use Rattle.moka_maintenance.specs.Steps.{stock_in}
-use Rattle.moka_maintenance.specs.Passes.{IsPass, IsRan}
-use Rattle.moka_maintenance.proofs.Clocked.{clocked-start, clocked-check, still_early}
-use Rattle.moka_maintenance.proofs.Passing.{is_due, not_due, moving-none, moving-few, moving-on, moving-less, ran-out, ran-late}
+use Rattle.moka_maintenance.specs.Passes.{IsRan}
+use Rattle.moka_maintenance.proofs.Passing.{IsMoving, is_due, not_due, moving-none, moving-few, moving-on, moving-less, ran, clocked-start, clocked-check}
 use Rattle.moka_maintenance.proofs.Upkeep.{upkeep-none, upkeep-on, upkept-on}
 use Rattle.moka_maintenance.proofs.passes.make_passes.Goals as goal
 
@@ -15,41 +14,41 @@ loop-terms-init g c = record {
 }
 
 pub overflow_add-passes : goal.overflow_add-passes
-overflow_add-passes g c = let few = moving-few g.L.Listener.tells g.P.PredicateFn.says c.args.terms.tests c.args.terms.batch c.args.store.now.ordered _ _ _ _ _ _ _ c.loop-terms.invariant.moving in let count = c.member_count-members.ensures.value in let bound = c.member_count-members.ensures.few in (search rules)
+overflow_add-passes g c = let few = moving-few g.L.Listener.tells g.P.PredicateFn.says c.args.terms.tests c.args.terms.batch c.loop-terms.store.ordered _ _ _ _ _ _ _ c.loop-terms.invariant.moving in let count = c.member_count-members.ensures.value in let bound = c.member_count-members.ensures.few in (search rules)
 
 pub returns-then-not-goes_on-clause-ran : goal.returns-then-not-goes_on-clause-ran
 returns-then-not-goes_on-clause-ran g c =
     let inv = c.loop-terms.invariant in
-    let passed = subst (λ (b : Bool). IsPass g.L.Listener.tells g.P.PredicateFn.says c.args.terms.tests c.args.terms.batch b c.loop-terms.invalidator c.make_pass-pass.new.invalidator (stock_in c.loop-terms.store) (stock_in c.make_pass-pass.new.store) c.loop-terms.notifier c.make_pass-pass.new.notifier c.make_pass-pass.result.removed c.make_pass-pass.result.has_more c.make_pass-pass.result.scan_has_more) inv.upkeep.timers.ordered c.make_pass-pass.ensures.pass in
-    subst (λ (b : Bool). IsRan g.L.Listener.tells g.P.PredicateFn.says c.args.terms.tests g.C.Clock.reads (option_map as_nanos c.args.terms.limit) c.args.terms.batch c.args.store.now.ordered c.args.invalidator.now c.make_pass-pass.new.invalidator (stock_in c.args.store.now) (stock_in c.make_pass-pass.new.store) c.args.notifier.now c.make_pass-pass.new.notifier c.args.clock.now c.loop-terms.clock (c.loop-terms.passes + 1) b) (sym c.leaves_more-has_more.ensures)
-    (ran-out g.L.Listener.tells g.P.PredicateFn.says c.args.terms.tests c.args.terms.batch c.args.store.now.ordered _ _ _ _ _ _ _ _ _ _ _ _ _ inv.moving passed g.C.Clock.reads (option_map as_nanos c.args.terms.limit) c.start-started.result c.args.clock.now c.loop-terms.clock c.loop-terms.clock inv.clocked (not_due _ _ (sym c.goes_on.ensures ∙ c.if-not-goes_on.true)))
+    let pass = c.make_pass-pass.result in
+    let more = c.leaves_more-has_more in
+    subst (λ (b : Bool). IsRan g.L.Listener.tells g.P.PredicateFn.says c.args.terms.tests g.C.Clock.reads (option_map as_nanos c.args.terms.limit) c.args.terms.batch b c.args.invalidator.now c.make_pass-pass.new.invalidator (stock_in c.args.store.now) (stock_in c.make_pass-pass.new.store) c.args.notifier.now c.make_pass-pass.new.notifier c.args.clock.now c.loop-terms.clock (c.loop-terms.passes + 1) more.result) inv.upkeep.timers.ordered
+    (ran g.L.Listener.tells g.P.PredicateFn.says c.args.terms.tests c.args.terms.batch _ _ _ _ _ _ _ _ _ _ _ pass.removed pass.has_more pass.scan_has_more inv.moving c.make_pass-pass.ensures.pass g.C.Clock.reads (option_map as_nanos c.args.terms.limit) c.start-started.result c.args.clock.now c.loop-terms.clock c.loop-terms.passes false more.result more.ensures (omega arith) inv.clocked
+    (λ late. absurd (true≢false (sym late))) (λ _ is. not_due _ _ (sym c.goes_on.ensures ∙ c.if-not-goes_on.true) (sym more.ensures ∙ is)))
 
 pub returns-then-is_late-clause-ran : goal.returns-then-is_late-clause-ran
 returns-then-is_late-clause-ran g c =
     let inv = c.loop-terms.invariant in
-    let passed = subst (λ (b : Bool). IsPass g.L.Listener.tells g.P.PredicateFn.says c.args.terms.tests c.args.terms.batch b c.loop-terms.invalidator c.make_pass-pass.new.invalidator (stock_in c.loop-terms.store) (stock_in c.make_pass-pass.new.store) c.loop-terms.notifier c.make_pass-pass.new.notifier c.make_pass-pass.result.removed c.make_pass-pass.result.has_more c.make_pass-pass.result.scan_has_more) inv.upkeep.timers.ordered c.make_pass-pass.ensures.pass in
+    let pass = c.make_pass-pass.result in
     let on = is_due _ _ (sym c.goes_on.ensures ∙ c.if-not-goes_on.false) in
-    ran-late g.L.Listener.tells g.P.PredicateFn.says c.args.terms.tests c.args.terms.batch c.args.store.now.ordered _ _ _ _ _ _ _ _ _ _ _ _ _ inv.moving passed g.C.Clock.reads (option_map as_nanos c.args.terms.limit) c.start-started.result c.args.clock.now c.loop-terms.clock c.is_late.new.clock
-    (clocked-check g.C.Clock.reads (option_map as_nanos c.args.terms.limit) c.start-started.result c.args.clock.now c.loop-terms.clock c.is_late.new.clock c.loop-terms.passes _ inv.clocked c.if-is_late.ensures)
-    on.0 on.1
+    subst (λ (b : Bool). IsRan g.L.Listener.tells g.P.PredicateFn.says c.args.terms.tests g.C.Clock.reads (option_map as_nanos c.args.terms.limit) c.args.terms.batch b c.args.invalidator.now c.make_pass-pass.new.invalidator (stock_in c.args.store.now) (stock_in c.make_pass-pass.new.store) c.args.notifier.now c.make_pass-pass.new.notifier c.args.clock.now c.is_late.new.clock (c.loop-terms.passes + 1) true) inv.upkeep.timers.ordered
+    (ran g.L.Listener.tells g.P.PredicateFn.says c.args.terms.tests c.args.terms.batch _ _ _ _ _ _ _ _ _ _ _ pass.removed pass.has_more pass.scan_has_more inv.moving c.make_pass-pass.ensures.pass g.C.Clock.reads (option_map as_nanos c.args.terms.limit) c.start-started.result c.args.clock.now c.is_late.new.clock (c.loop-terms.passes + 1) true true (sym on.0) (omega arith)
+    (clocked-check g.C.Clock.reads (option_map as_nanos c.args.terms.limit) c.start-started.result c.args.clock.now c.loop-terms.clock c.is_late.new.clock c.loop-terms.passes true inv.clocked c.if-is_late.ensures)
+    (λ _. (refl, on.1)) (λ early. absurd (true≢false early)))
 
 pub loop-terms-smaller : goal.loop-terms-smaller
 loop-terms-smaller g c =
-    let inv = c.loop-terms.invariant in
-    let passed = subst (λ (b : Bool). IsPass g.L.Listener.tells g.P.PredicateFn.says c.args.terms.tests c.args.terms.batch b c.loop-terms.invalidator c.make_pass-pass.new.invalidator (stock_in c.loop-terms.store) (stock_in c.make_pass-pass.new.store) c.loop-terms.notifier c.make_pass-pass.new.notifier c.make_pass-pass.result.removed c.make_pass-pass.result.has_more c.make_pass-pass.result.scan_has_more) inv.upkeep.timers.ordered c.make_pass-pass.ensures.pass in
-    let less = moving-less g.L.Listener.tells g.P.PredicateFn.says c.args.terms.tests c.args.terms.batch c.args.store.now.ordered _ _ _ _ _ _ _ _ _ _ _ _ _ c.loop-terms.invariant.moving passed (is_due (c.make_pass-pass.result.has_more || c.make_pass-pass.result.scan_has_more) c.make_pass-pass.result.removed (sym c.goes_on.ensures ∙ c.if-not-goes_on.false)).1 in omega arith
+    let less = moving-less g.L.Listener.tells g.P.PredicateFn.says c.args.terms.tests c.args.terms.batch _ _ _ _ _ _ _ _ _ _ _ _ _ _ c.loop-terms.invariant.moving c.make_pass-pass.ensures.pass (is_due _ _ (sym c.goes_on.ensures ∙ c.if-not-goes_on.false)).1 in omega arith
 
 pub loop-terms-preserved : goal.loop-terms-preserved
 loop-terms-preserved g c =
     let inv = c.loop-terms.invariant in
-    let passed = subst (λ (b : Bool). IsPass g.L.Listener.tells g.P.PredicateFn.says c.args.terms.tests c.args.terms.batch b c.loop-terms.invalidator c.make_pass-pass.new.invalidator (stock_in c.loop-terms.store) (stock_in c.make_pass-pass.new.store) c.loop-terms.notifier c.make_pass-pass.new.notifier c.make_pass-pass.result.removed c.make_pass-pass.result.has_more c.make_pass-pass.result.scan_has_more) inv.upkeep.timers.ordered c.make_pass-pass.ensures.pass in
-    let made = c.make_pass-pass.ensures in
     let on = is_due _ _ (sym c.goes_on.ensures ∙ c.if-not-goes_on.false) in
     record {
-      moving = moving-on g.L.Listener.tells g.P.PredicateFn.says c.args.terms.tests c.args.terms.batch c.args.store.now.ordered _ _ _ _ _ _ _ _ _ _ _ _ _ inv.moving passed on.1 on.0;
-      clocked = still_early g.C.Clock.reads (option_map as_nanos c.args.terms.limit) c.start-started.result c.args.clock.now c.is_late.new.clock (c.loop-terms.passes + 1)
-          (clocked-check g.C.Clock.reads (option_map as_nanos c.args.terms.limit) c.start-started.result c.args.clock.now c.loop-terms.clock c.is_late.new.clock c.loop-terms.passes _ inv.clocked c.if-is_late.ensures);
-      upkeep = upkeep-on c.args.store.now c.loop-terms.store c.make_pass-pass.new.store inv.upkeep made.kept.upkeep;
+      moving =
+          subst (λ (b : Bool). IsMoving g.L.Listener.tells g.P.PredicateFn.says c.args.terms.tests c.args.terms.batch b c.args.invalidator.now c.make_pass-pass.new.invalidator (stock_in c.args.store.now) (stock_in c.make_pass-pass.new.store) c.args.notifier.now c.make_pass-pass.new.notifier (c.loop-terms.passes + 1)) (sym c.make_pass-pass.ensures.kept.upkeep.timers.ordered)
+          (moving-on g.L.Listener.tells g.P.PredicateFn.says c.args.terms.tests c.args.terms.batch _ _ _ _ _ _ _ _ _ _ _ _ _ _ inv.moving c.make_pass-pass.ensures.pass on.1 on.0);
+      clocked = clocked-check g.C.Clock.reads (option_map as_nanos c.args.terms.limit) c.start-started.result c.args.clock.now c.loop-terms.clock c.is_late.new.clock c.loop-terms.passes false inv.clocked c.if-is_late.ensures;
+      upkeep = upkeep-on c.args.store.now c.loop-terms.store c.make_pass-pass.new.store inv.upkeep c.make_pass-pass.ensures.kept.upkeep;
     }
 
 pub returns-then-not-goes_on-clause-kept : goal.returns-then-not-goes_on-clause-kept

@@ -6,7 +6,7 @@ use Rattle.moka_maintenance.proofs.scan.scan.Goals as goal
 use Rattle.moka_maintenance.proofs.scan.scan.Goals.{then-round, else-round}
 
 pub returns-then-is_empty : goal.returns-then-is_empty
-returns-then-is_empty g c = scanned-none g.L.Listener.tells g.P.PredicateFn.says c.args.batch c.args.store.now c.args.invalidator.now c.args.notifier.now (none_there (length c.args.invalidator.now) c.if-is_empty.ensures)
+returns-then-is_empty g c = scanned-none g.L.Listener.tells g.P.PredicateFn.says c.args.batch c.args.store.now c.args.invalidator.now c.args.notifier.now (none_there (length c.args.invalidator.now) c.if-is_empty.ensures) c.invariant_holds.ensures.listed
 
 pub returns-then-round-gt0 : goal.returns-then-round-gt0
 returns-then-round-gt0 g c =

@@ -2,8 +2,7 @@ use Rattle.std.proofs.Common.{option_map, sym, ap, subst, arith}
 use Rattle.moka_store.specs.declared.store.Handle.{Handle}
 use Rattle.moka_store.specs.Store.{Kept}
 use Rattle.moka_maintenance.specs.Scanning.{IsWalked}
-use Rattle.moka_maintenance.proofs.Turning.{next-ordered, turn_keeps}
-use Rattle.moka_maintenance.proofs.Walked.{at_most_one, walked-none, walked-on, walked-cursor}
+use Rattle.moka_maintenance.proofs.Walked.{at_most_one, walked-none, walked-on, walked-cursor, next-ordered, turn_keeps}
 use Rattle.moka_maintenance.proofs.Upkeep.{untimed-none, untimed-on}
 use Rattle.moka_maintenance.proofs.scan.scan_along.Goals as goal
 

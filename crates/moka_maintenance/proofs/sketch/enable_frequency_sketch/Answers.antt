@@ -1,9 +1,26 @@
-use Rattle.std.proofs.Common.{false, Some, ap, sym, ◌∙◌}
-use Rattle.moka_sketch.specs.Frequency.{size_asked, table_length_for}
-use Rattle.moka_parts.specs.Maintenance.{is_sketch_due, with_sketch}
+use Rattle.std.proofs.Common.{false, Some, ap, sym, ◌∙◌, ◌≡◌, ℕ, Bool, true, length, Option, Result, Ok, Err, OnOk, OnErr, if◌then◌else◌}
+use Rattle.moka_sketch.specs.Frequency.{size_asked, table_length_for, Table, no_counts}
+use Rattle.moka_parts.specs.Maintenance.{is_sketch_due, with_sketch, length_of_new_table}
+use Rattle.moka_parts.specs.declared.policy.EvictionPolicy.{EvictionPolicy}
+use Rattle.moka_parts.specs.Records.{total_weight}
+use Rattle.moka_parts.specs.State.{Contents}
 use Rattle.moka_maintenance.specs.Steps.{contents_with}
-use Rattle.moka_maintenance.proofs.Enabled.{not-enabled, enabled}
 use Rattle.moka_maintenance.proofs.sketch.enable_frequency_sketch.Goals as goal
+
+module _ {K V : Type 0} (c : Contents K V) (policy : EvictionPolicy) (has_weigher : Bool) (capacity : ℕ) (o : Option ℕ) (is : o ≡ Some capacity) where
+  enabled_by : (is_short b : Bool) → is_sketch_due (Some capacity) policy c.sketch (total_weight c.access) ≡ b → (record c { sketch = if b then Some (no_counts (length_of_new_table is_short (Some capacity) has_weigher c.access)) else c.sketch }) ≡ with_sketch o policy has_weigher is_short c
+  enabled_by is_short b due =
+      sym (ap (λ o. with_sketch o policy has_weigher is_short c) is ∙ ap (λ b. record c { sketch = if b then Some (no_counts (length_of_new_table is_short (Some capacity) has_weigher c.access)) else c.sketch }) due)
+
+  -- it is not due
+  not-enabled : is_sketch_due (Some capacity) policy c.sketch (total_weight c.access) ≡ false → (is_short : Bool) × (c ≡ with_sketch o policy has_weigher is_short c)
+  not-enabled due = (false, enabled_by false false due)
+
+  -- it comes on, with the length asked for unless that was refused
+  enabled : {A E : Type 0} (made : Result A E) (sketch : Option Table) (size : ℕ) → is_sketch_due (Some capacity) policy c.sketch (total_weight c.access) ≡ true → table_length_for size ≡ table_length_for (size_asked has_weigher capacity (length c.access) (total_weight c.access))
+      → OnOk made (sketch ≡ Some (no_counts (table_length_for size))) → OnErr made (sketch ≡ Some (no_counts 128)) → (is_short : Bool) × ((record c { sketch = sketch }) ≡ with_sketch o policy has_weigher is_short c)
+  enabled (Ok a) sketch size due same ok err = (false, ap (λ (t : Option Table). record c { sketch = t }) (ok ∙ ap (λ n. Some (no_counts n)) same) ∙ enabled_by false true due)
+  enabled (Err e) sketch size due same ok err = (true, ap (λ (t : Option Table). record c { sketch = t }) err ∙ enabled_by true true due)
 
 pub returns-in_default : goal.returns-in_default
 returns-in_default g c = (false, sym (ap (λ o. with_sketch o c.args.bounds.policy c.args.bounds.has_weigher false (contents_with c.args.sketch.now c.args.store.now)) c.in_default.is))

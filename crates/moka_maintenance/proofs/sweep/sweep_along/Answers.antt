@@ -1,7 +1,6 @@
 use Rattle.std.proofs.Common.{arith, refl, ◌∙◌}
 use Rattle.moka_maintenance.specs.Steps.{stock_in}
-use Rattle.moka_maintenance.proofs.Rows.{is_along}
-use Rattle.moka_maintenance.proofs.Sweeping.{sweeping-none, sweeping-removed, sweeping-passed, sweeping-rounds, sweeping-ended, sweeping-over, sweeping-all}
+use Rattle.moka_maintenance.proofs.Sweeping.{sweeping-none, sweeping-removed, sweeping-passed, sweeping-rounds, sweeping-ended, sweeping-over, sweeping-all, is_along}
 use Rattle.moka_maintenance.proofs.Upkeep.{untimed-none, untimed-on}
 use Rattle.moka_maintenance.proofs.sweep.sweep_along.Goals as goal
 

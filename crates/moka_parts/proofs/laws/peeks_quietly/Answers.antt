@@ -1,4 +1,4 @@
-use Rattle.moka_parts.proofs.Quiet.{peeks_quietly}
+use Rattle.moka_parts.proofs.Contained.{peeks_quietly}
 use Rattle.moka_parts.proofs.laws.peeks_quietly.Goals as goal
 
 pub returns : goal.returns

@@ -14,7 +14,7 @@ returns-then-counter-ge-GREATEST-clause-rose c =
 
 pub returns-clause-counters : goal.returns-clause-counters
 returns-clause-counters c =
-    raised-word c.args.words.now c.args.hash c.args.i c.args.factor _ _ _ c.word_index-at.ensures.value c.position_of-position.ensures.value c.word_index-at.ensures.within c.position_of-position.ensures.within (omega (arith, c.counter.ensures)) c.raised_word.ensures.here c.raised_word.ensures.others
+    raised-word c.args.words.now c.args.hash c.args.i c.args.factor _ _ c.word_index-at.ensures.value c.position_of-position.ensures.value c.word_index-at.ensures.within c.position_of-position.ensures.within _ (omega (arith, c.counter.ensures)) c.raised_word.ensures.here c.raised_word.ensures.others
 
 pub returns-clause-rose : goal.returns-clause-rose
 returns-clause-rose c =

@@ -22,6 +22,9 @@ module _ {K V S X L P W C : Type 0} (m : Meaning K V X L P W C (Unit {0})) (key 
       whole : refused ≡ record { error = insert_error.OutOfMemory; key = key; value = value }
       whole = ap (λ e. record refused { error = e }) error ∙ ap (λ k. record refused { error = insert_error.OutOfMemory; key = k }) same_key ∙ ap (λ v. record refused { error = insert_error.OutOfMemory; key = key; value = v }) same_value
 
+pub returns-in-OutOfMemory-clause-put : goal.returns-in-OutOfMemory-clause-put
+returns-in-OutOfMemory-clause-put g c = rw (← c.in-Err.ensures.unchanged.0, ← c.in-Err.ensures.back.0, ← c.in-Err.ensures.back.1) c.insert-in-OutOfMemory.ensures.kept
+
 pub returns-in-OutOfMemory-clause-made : goal.returns-in-OutOfMemory-clause-made
 returns-in-OutOfMemory-clause-made g c =
     retried (plain_meaning (λ a b. a == b) g.C.Clock.reads) c.args.key c.args.value c.args.now c.args.cache.now.engine c.insert.new.self.engine c.insert-in-OutOfMemory.new.self.engine c.args.clock.now c.insert.new.clock c.insert-in-OutOfMemory.new.clock c.in-Err.refused c.in-OutOfMemory.is c.in-Err.ensures.back.0 c.in-Err.ensures.back.1 _ _ c.in-Err.ensures.made c.insert-in-OutOfMemory.result c.insert-in-OutOfMemory.ensures.made

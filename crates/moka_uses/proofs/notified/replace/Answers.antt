@@ -18,8 +18,8 @@ do_insert_with_hash-requires-2 c =
     let sent = sends t _ _ c.send.new.self.state c.in_ok-send.ensures.step in
     record { enabled = ap is_disabled (sent.alike.capacity ∙ put.alike.capacity ∙ ap (λ x. x.state.capacity) c.in_ok-cache.ensures.empty) ∙ search rules }
 
-pub returns-clause-notified : goal.returns-clause-notified
-returns-clause-notified c =
+pub returns : goal.returns
+returns c =
     let put = c.in_ok-put.ensures in
     let again = c.in_ok-replaced.ensures in
     let l = c.in_ok-cache.cache in
@@ -32,30 +32,16 @@ returns-clause-notified c =
     c.args.key c.hash-hash.result c.args.first (record { 0 = 0 }) (c.in_ok-put.put, c.in_ok-put.field-0-1) put.0 m.state put.1.1
     _ _ n.state c.in_ok-send.ensures.step
     c.hash-hash.result c.args.second (record { 0 = 0 }) (c.in_ok-replaced.replaced, c.in_ok-replaced.field-0-1) again.0 o.state again.1.1 in
-    heard_of_the_second (λ (c : Counter). record { count = min (c.count + 1) greatest }) (λ before _ _ _ after. after ≡ record { count = min (before.count + 1) greatest }) (λ _ _ _ _ _ h. h)
-    (record { count = 0 }) l.listener m.listener n.listener o.listener p.listener put.0.notices again.0.notices
-    (ap (λ x. x.listener) c.in_ok-cache.ensures.empty ∙ search rules) put.2.heard c.in_ok-send.ensures.events.heard again.2.heard c.in_ok-send-2.ensures.events.heard told.0 told.1
-
-pub returns-clause-replaced : goal.returns-clause-replaced
-returns-clause-replaced c =
-    let again = c.in_ok-replaced.ensures in
-    let n = c.send.new.self.state in
-    let o = c.do_insert_with_hash-2.new.self.state in
-    let p = c.send-2.new.self.state in
-    let put = put_by_insert (λ a b. a == b) nat_eq_equiv c.args.key c.args.second (record { 0 = 0 }) (λ _ _ _ _. None) (λ _ _ _ _ left. left) (λ _ _ _ weight. weight ≡ 1) n c.hash-hash.result (c.in_ok-replaced.replaced, c.in_ok-replaced.field-0-1) again.0 o c.invariant_holds.ensures.valid again.1.1 in
-    kept_where_held (λ a b. a == b) nat_eq_equiv c.args.key c.args.second (record { 0 = 0 }) _ o p c.invariant_holds-2.ensures.valid put (subst (IsHeld put.made.number put.made) (sym (send_holds o _ _ p c.in_ok-send-2.ensures.step)) put.held)
-
-pub returns-clause-sent : goal.returns-clause-sent
-returns-clause-sent c =
-    let put = c.in_ok-put.ensures in
-    let again = c.in_ok-replaced.ensures in
-    let s = c.in_ok-cache.cache.state in
-    let t = c.do_insert_with_hash.new.self.state in
-    let v = c.send.new.self.state in
-    let x = c.do_insert_with_hash-2.new.self.state in
-    let y = c.send-2.new.self.state in
-    let one = hands_out (λ _ _ _ _. None) (λ _ _ _ _ left. left) (λ _ _ _ weight. weight ≡ 1) (λ a b. a == b) s c.args.key c.hash-hash.result c.args.first (record { 0 = 0 }) (c.in_ok-put.put, c.in_ok-put.field-0-1) put.0 t put.1.1 in
-    let other = hands_out (λ _ _ _ _. None) (λ _ _ _ _ left. left) (λ _ _ _ weight. weight ≡ 1) (λ a b. a == b) v c.args.key c.hash-hash.result c.args.second (record { 0 = 0 }) (c.in_ok-replaced.replaced, c.in_ok-replaced.field-0-1) again.0 x again.1.1 in
-    let sent = sends t _ _ v c.in_ok-send.ensures.step in
-    let last = sends x _ _ y c.in_ok-send-2.ensures.step in
-    put_and_sent v x y _ other last (put_and_sent s t v _ one sent (ap (λ x. x.state.outstanding) c.in_ok-cache.ensures.empty))
+    let kept = put_by_insert (λ a b. a == b) nat_eq_equiv c.args.key c.args.second (record { 0 = 0 }) (λ _ _ _ _. None) (λ _ _ _ _ left. left) (λ _ _ _ weight. weight ≡ 1) n.state c.hash-hash.result (c.in_ok-replaced.replaced, c.in_ok-replaced.field-0-1) again.0 o.state c.invariant_holds.ensures.valid again.1.1 in
+    let one = hands_out (λ _ _ _ _. None) (λ _ _ _ _ left. left) (λ _ _ _ weight. weight ≡ 1) (λ a b. a == b) l.state c.args.key c.hash-hash.result c.args.first (record { 0 = 0 }) (c.in_ok-put.put, c.in_ok-put.field-0-1) put.0 m.state put.1.1 in
+    let other = hands_out (λ _ _ _ _. None) (λ _ _ _ _ left. left) (λ _ _ _ weight. weight ≡ 1) (λ a b. a == b) n.state c.args.key c.hash-hash.result c.args.second (record { 0 = 0 }) (c.in_ok-replaced.replaced, c.in_ok-replaced.field-0-1) again.0 o.state again.1.1 in
+    let sent = sends m.state _ _ n.state c.in_ok-send.ensures.step in
+    let last = sends o.state _ _ p.state c.in_ok-send-2.ensures.step in
+    record {
+      notified = heard_of_the_second (λ (c : Counter). record { count = min (c.count + 1) greatest }) (λ before _ _ _ after. after ≡ record { count = min (before.count + 1) greatest }) (λ _ _ _ _ _ h. h)
+          (record { count = 0 }) l.listener m.listener n.listener o.listener p.listener put.0.notices again.0.notices
+          (ap (λ x. x.listener) c.in_ok-cache.ensures.empty ∙ search rules) put.2.heard c.in_ok-send.ensures.events.heard again.2.heard c.in_ok-send-2.ensures.events.heard told.0 told.1;
+      sent = put_and_sent n.state o.state p.state _ other last (put_and_sent l.state m.state n.state _ one sent (ap (λ x. x.state.outstanding) c.in_ok-cache.ensures.empty));
+      replaced = kept_where_held (λ a b. a == b) nat_eq_equiv c.args.key c.args.second (record { 0 = 0 }) _ o.state p.state c.invariant_holds-2.ensures.valid kept
+          (subst (IsHeld kept.made.number kept.made) (sym (send_holds o.state _ _ p.state c.in_ok-send-2.ensures.step)) kept.held);
+    }

@@ -6,20 +6,18 @@ use Rattle.moka_engine.specs.Runs.{Engine}
 use Rattle.moka_engine.specs.State.{Meaning}
 use Rattle.moka_drive.specs.declared.error.GetWithRefused.{GetWithRefused}
 use Rattle.moka_drive.specs.Synchronous.{GetsOrInsertsIfNoError, HandsOutIfNoError, Makes}
-use Rattle.moka_uses.specs.ReadThrough.{FindsNothing}
+use Rattle.moka_uses.specs.Made.{LooksUp}
 use Rattle.moka_uses.proofs.read_through.look_up.Goals as goal
 
 module _ {K V E S X L P W C : Type 0} (m : Meaning K V X L P W C (Unit {0})) (is_clone : V → V → Type 0) (key : K) (hash : ℕ) (now : Instant) (old new : Engine K V S X L P W) (clock clock_after : C) (Given : V → Type 0) (Fails : E → Type 0) where
   -- where an error is handed out only the look-up was made
   failed : (made : Option (Result V E)) (own : Result (Result V E) (Option (InsertRefused K V))) (result : Result (Result V E) (GetWithRefused K V)) → HandsOutIfNoError is_clone key own result → Makes m (GetsOrInsertsIfNoError key hash now made own) old clock new clock_after
-      → IfOk result (λ answer. IfOk answer Given × IfErr answer Fails) → IfOk result (λ answer. IfErr answer (λ error. Fails error × FindsNothing m key now old clock new clock_after))
+      → IfOk result (λ answer. IfOk answer Given × IfErr answer Fails) → IfOk result (λ answer. IfErr answer (λ error. Fails error × LooksUp m key now old clock new clock_after (Ok None)))
   failed made own (Err refused) handed makes answered = tt
   failed made own (Ok (Ok value)) handed makes answered = tt
   failed (Some (Err f)) (Ok (Err e)) (Ok (Err error)) handed (calls, replies, (same, fits), by) answered = (answered.1, (hash, (calls, replies, fits, by)))
-  failed None (Ok (Err e)) (Ok (Err error)) handed (calls, replies, fits, by) answered = absurd fits
-  failed (Some (Ok x)) (Ok (Err e)) (Ok (Err error)) handed (calls, replies, fits, by) answered = absurd fits
-  failed made (Ok (Ok v)) (Ok (Err error)) handed makes answered = absurd handed
-  failed made (Err r) (Ok (Err error)) handed makes answered = absurd handed
+  failed made (Ok (Err e)) (Ok (Err error)) handed (calls, replies, fits, by) answered = absurd fits
+  failed made own (Ok (Err error)) handed makes answered = absurd handed
 
 given : {V E R : Type 0} (Given : V → Type 0) (Fails : E → Type 0) (result : Result (Result V E) R) → IfOk result (λ answer. IfOk answer Given × IfErr answer Fails) → IfOk result (λ answer. IfOk answer Given)
 given Given Fails (Ok answer) answered = answered.0

@@ -22,7 +22,7 @@ pub(super) struct Moments<'a, X> {
 }
 
 impl<'a, X> Moments<'a, X> {
-    // Whether they hide a record, which has a moment of its own only if an expiry is set. The record is not read where
+    // Whether they hide a record, which has a moment of its own only if an expiry is set. The record is not read if
     // none can hide one.
     #[inline(always)]
     pub(super) fn hide<K, V>(&self, found: &RecordRef<'_, K, V>) -> bool
@@ -77,7 +77,7 @@ pub(super) struct Hit {
     pub(super) is_renewed: bool,
 }
 
-// What a hit at the moment `now` makes of a record: where an expiry is set, it is asked, and the hit counts no earlier
+// What a hit at the moment `now` makes of a record: if an expiry is set, it is asked, and the hit counts no earlier
 // than the record was written.
 #[inline(always)]
 pub(super) fn hit_of<K, V, X: Expiry<K, V>>(
@@ -124,7 +124,7 @@ fn left_at<K, V, X>(
     )
 }
 
-// A clone of the record's value, with one of its key where that is asked for.
+// A clone of the record's value, with one of its key if that is asked for.
 #[inline(always)]
 pub(super) fn entry_of<K: Clone, V: Clone>(
     found: &RecordRef<'_, K, V>,

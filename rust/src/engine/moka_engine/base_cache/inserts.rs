@@ -8,10 +8,10 @@ use crate::engine::moka_parts::expiry::{deadline_of, is_expired_by_per_entry_ttl
 use crate::engine::moka_parts::policy::{ExpirationPolicy, Expiry, Instant};
 use crate::engine::moka_parts::record_ref::RecordRef;
 
-// What an entry weighs where no weigher is set.
+// What an entry weighs if no weigher is set.
 const DEFAULT_WEIGHT: u32 = 1;
 
-// The weight of an entry: the weigher's answer, or 1 where none is set.
+// The weight of an entry: the weigher's answer, or 1 if none is set.
 #[inline(always)]
 pub(super) fn weigh<K, V, W: Weigher<K, V>>(weigher: &Option<W>, key: &K, value: &V) -> u32
 {
@@ -21,7 +21,7 @@ pub(super) fn weigh<K, V, W: Weigher<K, V>>(weigher: &Option<W>, key: &K, value:
     }
 }
 
-// When a new entry expires: where an expiry is set, it is asked.
+// When a new entry expires: if an expiry is set, it is asked.
 #[inline(always)]
 pub(super) fn expires_at_creation<K, V, X: Expiry<K, V>>(
     policy: &ExpirationPolicy<X>,
@@ -36,7 +36,7 @@ pub(super) fn expires_at_creation<K, V, X: Expiry<K, V>>(
     deadline_of(expiry.expire_after_create(key, value, now), now)
 }
 
-// When an entry with a new value expires: where an expiry is set, it is asked, and as about a new entry if the old one
+// When an entry with a new value expires: if an expiry is set, it is asked, and as about a new entry if the old one
 // has expired.
 #[inline(always)]
 pub(super) fn expires_at_update<K, V, X: Expiry<K, V>>(

@@ -25,7 +25,7 @@ impl<
 > BaseCache<K, V, S, X, L, P, W> {
     /// Looks up a key as `get_with_hash` does, unless the caller's test, if one is given, ignores the value that is
     /// found: then it is as if the key were not there. The test is asked once of the value of the key's record, visible
-    /// or not, and never where there is none.
+    /// or not, and never if there is none.
     ///
     /// # Errors
     /// `OutOfMemory` if memory for a clone is refused. Nothing has changed but what the test keeps itself.
@@ -57,7 +57,7 @@ impl<
         }
     }
 
-    // A look-up that is recorded, where the test does not ignore what it finds.
+    // A look-up that is recorded. The test may ignore what it finds.
     #[inline(always)]
     pub(super) fn get_hashed<I: ValueTest<V>, C: Clock>(
         &mut self,

@@ -24,7 +24,7 @@ impl<
         self.inner.outstanding_count() as u64
     }
 
-    /// The least ticket whose operation was not sent, and `None` where all were sent.
+    /// The least ticket whose operation was not sent, and `None` if all were sent.
     pub fn oldest_unsent(&self) -> Option<Ticket>
     {
         self.inner.oldest_outstanding()

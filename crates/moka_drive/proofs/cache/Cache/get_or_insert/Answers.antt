@@ -5,19 +5,19 @@ use Rattle.moka_parts.specs.Hashing.{key_hash}
 use Rattle.moka_drive.specs.Counters.{after_look_up}
 use Rattle.moka_drive.specs.Given.{Sees}
 use Rattle.moka_drive.proofs.Getting.{got_nothing, got_refused, got_value}
-use Rattle.moka_drive.proofs.Entries.{found_there, look_up_refused, put_and_handed_out}
+use Rattle.moka_drive.proofs.Entries.{put_and_handed_out}
 use Rattle.moka_drive.proofs.cache.Cache.get_or_insert.Goals as goal
 
 pub returns-in-Ok-Some : goal.returns-in-Ok-Some
 returns-in-Ok-Some g c =
     let hash_by : g.row.S.Denot → ℕ = λ h. key_hash g.S.BuildHasher g.S.Hasher.Hasher h (g.K.Hash.hash_input c.args.key) in
-    let there = found_there g.V.Clone.is_clone _ c.args.key (hash_by c.args.self.now.engine.hasher) c.args.now c.args.self.now c.get_hashed.new.self c.args.clock.now c.get_hashed.new.clock (λ v. v ≡ c.args.value) c.in-Ok-Some.value (got_value g.V.Clone.is_clone _ c.args.key hash_by c.args.now c.args.self.now c.get_hashed.new.self c.args.clock.now c.get_hashed.new.clock (λ v. v ≡ c.args.value) _ c.in-Ok-Some.value c.in-Ok-Some.field-0-is c.in-Ok-Some.ensures.made c.in-Ok-Some.ensures.counted c.in-Ok-Some.ensures.sees) in
+    let there = got_value g.V.Clone.is_clone _ c.args.key hash_by c.args.now c.args.self.now c.get_hashed.new.self c.args.clock.now c.get_hashed.new.clock (λ v. v ≡ c.args.value) _ c.in-Ok-Some.value c.in-Ok-Some.field-0-is c.in-Ok-Some.ensures.made c.in-Ok-Some.ensures.counted c.in-Ok-Some.ensures.sees in
     rw c.found.ensures (None, Ok there.0, there.1.0, there.1.1, (refl, refl, refl), there.1.2, there.1.3, there.1.4, tt)
 
 pub returns-in-Err : goal.returns-in-Err
 returns-in-Err g c =
     let hash_by : g.row.S.Denot → ℕ = λ h. key_hash g.S.BuildHasher g.S.Hasher.Hasher h (g.K.Hash.hash_input c.args.key) in
-    let refused = look_up_refused g.V.Clone.is_clone _ c.args.key (hash_by c.args.self.now.engine.hasher) c.args.now c.args.self.now c.get_hashed.new.self c.args.clock.now c.get_hashed.new.clock (λ v. v ≡ c.args.value) c.args.key (got_refused g.V.Clone.is_clone _ c.args.key hash_by c.args.now c.args.self.now c.get_hashed.new.self c.args.clock.now c.get_hashed.new.clock (λ v. v ≡ c.args.value) c.in-Err.field-0 c.in-Err.ensures.made c.in-Err.ensures.counted c.in-Err.ensures.unchanged.0) in
+    let refused = got_refused g.V.Clone.is_clone _ c.args.key hash_by c.args.now c.args.self.now c.get_hashed.new.self c.args.clock.now c.get_hashed.new.clock (λ v. v ≡ c.args.value) c.in-Err.field-0 c.in-Err.ensures.made c.in-Err.ensures.counted c.in-Err.ensures.unchanged.0 in
     (None, Err None, refused.0, refl, tt, refused.2, refused.3, tt, (refl, refl))
 
 pub returns : goal.returns

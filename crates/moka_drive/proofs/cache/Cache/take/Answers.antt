@@ -1,5 +1,6 @@
-use Rattle.std.proofs.Common.{◌∙◌, ap, Some, None}
+use Rattle.std.proofs.Common.{◌∙◌, refl, ap, Some, None}
 use Rattle.moka_parts.specs.State.{Meaning, is_disabled}
+use Rattle.moka_parts.proofs.RunKeeps.{keeps_itself}
 use Rattle.moka_drive.specs.Synchronous.{meaning_of}
 use Rattle.moka_drive.proofs.Waiting.{remove_hands_out}
 use Rattle.moka_drive.proofs.Asking.{took_none, took}
@@ -28,18 +29,13 @@ returns-clause-made g c =
 
 pub returns-in_default-clause-gone : goal.returns-in_default-clause-gone
 returns-in_default-clause-gone g c =
-    let m : Meaning g.row.K.Denot g.row.V.Denot g.row.X.Denot g.row.L.Denot g.row.P.Denot g.row.W.Denot g.row.C.Denot (Unit {0}) = meaning_of g.K.PartialEq.eq g.L.Listener.tells g.P.PredicateFn.says g.W.Weigher.weighs g.C.Clock.reads g.X.Expiry.created g.X.Expiry.read g.X.Expiry.updated in
-    has_left _ c.args.key.now g.met.K.Eq.laws c.args.hash c.args.now c.self.inside.engine c.remove_entry_with_own_hash.new.self c.args.clock.now c.args.clock.now c.invariant_holds.ensures.valid None
-    (took_none g.K.Clone.is_clone g.V.Clone.is_clone m c.args.key.now c.args.hash c.args.now c.self.inside.engine c.remove_entry_with_own_hash.new.self c.args.clock.now c.in_default.ensures.step c.in_default.ensures.events)
+    let left = c.remove_entry_with_own_hash.new.self.state in
+    has_left g.K.PartialEq.eq c.args.key.now c.self.inside.engine.state left left left None g.met.K.Eq.laws c.invariant_holds.ensures.valid c.in_default.ensures.step refl (keeps_itself left.records)
 
 pub returns-clause-gone : goal.returns-clause-gone
 returns-clause-gone g c =
-    let m : Meaning g.row.K.Denot g.row.V.Denot g.row.X.Denot g.row.L.Denot g.row.P.Denot g.row.W.Denot g.row.C.Denot (Unit {0}) = meaning_of g.K.PartialEq.eq g.L.Listener.tells g.P.PredicateFn.says g.W.Weigher.weighs g.C.Clock.reads g.X.Expiry.created g.X.Expiry.read g.X.Expiry.updated in
-    let told = c.notify_invalidate-told.ensures in
-    has_left _ c.args.key.now g.met.K.Eq.laws c.args.hash c.args.now c.self.inside.engine c.post.new.engine c.args.clock.now c.post.new.clock c.invariant_holds.ensures.valid (Some (c.in-Some.entry.value, c.notify_invalidate-told.result))
-    (took g.K.Clone.is_clone g.V.Clone.is_clone m c.args.key.now c.args.hash c.args.now c.self.inside.engine c.remove_entry_with_own_hash.new.self c.args.clock.now
-    c.in-Some.entry c.in-Some.ticket c.in-Some.ensures.step c.in-Some.ensures.events
-    c.notify_invalidate-told.result told.0 told.1 c.notify_invalidate-told.new.self told.2 told.3 c.post.new.engine c.post.new.clock c.post.ensures.made)
+    has_left g.K.PartialEq.eq c.args.key.now c.self.inside.engine.state c.remove_entry_with_own_hash.new.self.state c.notify_invalidate-told.new.self.state c.post.new.engine.state (Some (c.in-Some.entry, c.in-Some.ticket)) g.met.K.Eq.laws
+    c.invariant_holds.ensures.valid c.in-Some.ensures.step c.notify_invalidate-told.ensures.2 c.post.ensures.keeps
 
 pub returns-in_default-clause-value : goal.returns-in_default-clause-value
 returns-in_default-clause-value g c = rw (← c.self.view_is) (value_taken g.K.PartialEq.eq c.args.key.now c.self.inside.engine.state c.remove_entry_with_own_hash.new.self.state None c.in_default.ensures.step)

@@ -1,5 +1,6 @@
-use Rattle.std.proofs.Common.{◌∙◌, ap, Some, None}
+use Rattle.std.proofs.Common.{◌∙◌, refl, ap, Some, None}
 use Rattle.moka_parts.specs.State.{Meaning, is_disabled}
+use Rattle.moka_parts.proofs.RunKeeps.{keeps_itself}
 use Rattle.moka_drive.specs.Synchronous.{meaning_of}
 use Rattle.moka_drive.proofs.Waiting.{remove_hands_out}
 use Rattle.moka_drive.proofs.Asking.{took_none, took}
@@ -30,17 +31,12 @@ returns-clause-made g c =
 
 pub returns-in_default-clause-gone : goal.returns-in_default-clause-gone
 returns-in_default-clause-gone g c =
-    let m : Meaning g.row.K.Denot g.row.V.Denot g.row.X.Denot g.row.L.Denot g.row.P.Denot g.row.W.Denot g.row.C.Denot (Unit {0}) = meaning_of g.K.PartialEq.eq g.L.Listener.tells g.P.PredicateFn.says g.W.Weigher.weighs g.C.Clock.reads g.X.Expiry.created g.X.Expiry.read g.X.Expiry.updated in
     let as_key = removed_as_key g.K.PartialEq.eq (g.T.KeyTest.passes c.args.test.now) (g.met.T.KeyTest.one_key c.args.test.now) c.self.inside.engine.state None c.remove_by.new.self.state c.in_default.ensures.step in
-    λ key passing. has_left _ key g.met.K.Eq.laws c.args.hash c.args.now c.self.inside.engine c.remove_by.new.self c.args.clock.now c.args.clock.now c.invariant_holds.ensures.valid None
-    (took_none g.K.Clone.is_clone g.V.Clone.is_clone m key c.args.hash c.args.now c.self.inside.engine c.remove_by.new.self c.args.clock.now (as_key key passing) c.in_default.ensures.events)
+    let left = c.remove_by.new.self.state in
+    λ key passing. has_left g.K.PartialEq.eq key c.self.inside.engine.state left left left None g.met.K.Eq.laws c.invariant_holds.ensures.valid (as_key key passing) refl (keeps_itself left.records)
 
 pub returns-clause-gone : goal.returns-clause-gone
 returns-clause-gone g c =
-    let m : Meaning g.row.K.Denot g.row.V.Denot g.row.X.Denot g.row.L.Denot g.row.P.Denot g.row.W.Denot g.row.C.Denot (Unit {0}) = meaning_of g.K.PartialEq.eq g.L.Listener.tells g.P.PredicateFn.says g.W.Weigher.weighs g.C.Clock.reads g.X.Expiry.created g.X.Expiry.read g.X.Expiry.updated in
-    let told = c.notify_invalidate-told.ensures in
     let as_key = removed_as_key g.K.PartialEq.eq (g.T.KeyTest.passes c.args.test.now) (g.met.T.KeyTest.one_key c.args.test.now) c.self.inside.engine.state (Some (c.in-Some.entry, c.in-Some.ticket)) c.remove_by.new.self.state c.in-Some.ensures.step in
-    λ key passing. has_left _ key g.met.K.Eq.laws c.args.hash c.args.now c.self.inside.engine c.post.new.engine c.args.clock.now c.post.new.clock c.invariant_holds.ensures.valid (Some (c.in-Some.entry.value, c.notify_invalidate-told.result))
-    (took g.K.Clone.is_clone g.V.Clone.is_clone m key c.args.hash c.args.now c.self.inside.engine c.remove_by.new.self c.args.clock.now
-    c.in-Some.entry c.in-Some.ticket (as_key key passing) c.in-Some.ensures.events
-    c.notify_invalidate-told.result told.0 told.1 c.notify_invalidate-told.new.self told.2 told.3 c.post.new.engine c.post.new.clock c.post.ensures.made)
+    λ key passing. has_left g.K.PartialEq.eq key c.self.inside.engine.state c.remove_by.new.self.state c.notify_invalidate-told.new.self.state c.post.new.engine.state (Some (c.in-Some.entry, c.in-Some.ticket)) g.met.K.Eq.laws
+    c.invariant_holds.ensures.valid (as_key key passing) c.notify_invalidate-told.ensures.2 c.post.ensures.keeps

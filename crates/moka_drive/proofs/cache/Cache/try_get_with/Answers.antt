@@ -7,13 +7,13 @@ use Rattle.moka_drive.proofs.cache.Cache.try_get_with.Goals as goal
 pub returns-in-Ok-Some : goal.returns-in-Ok-Some
 returns-in-Ok-Some g c =
     let hash_by : g.row.S.Denot → ℕ = λ h. key_hash g.S.BuildHasher g.S.Hasher.Hasher h (g.K.Hash.hash_input c.args.key) in
-    let came = if_no_error g.V.Clone.is_clone _ c.args.key (hash_by c.args.self.now.engine.hasher) c.args.now c.args.self.now c.get_hashed.new.self c.args.clock.now c.get_hashed.new.clock (λ a. g.F.FnOnce.post c.args.init tt a) None (Ok c.in-Ok-Some.value) (got_value g.V.Clone.is_clone _ c.args.key hash_by c.args.now c.args.self.now c.get_hashed.new.self c.args.clock.now c.get_hashed.new.clock (λ v. g.F.FnOnce.post c.args.init tt (Ok v)) _ c.in-Ok-Some.value c.in-Ok-Some.field-0-is c.in-Ok-Some.ensures.made c.in-Ok-Some.ensures.counted c.in-Ok-Some.ensures.sees) in
+    let came = if_no_error g.V.Clone.is_clone _ c.args.key (hash_by c.args.self.now.engine.hasher) c.args.now c.args.self.now c.get_hashed.new.self c.args.clock.now c.get_hashed.new.clock (λ a. g.F.FnOnce.post c.args.init tt a) None (Ok c.in-Ok-Some.value) (let there = got_value g.V.Clone.is_clone _ c.args.key hash_by c.args.now c.args.self.now c.get_hashed.new.self c.args.clock.now c.get_hashed.new.clock (λ v. g.F.FnOnce.post c.args.init tt (Ok v)) _ c.in-Ok-Some.value c.in-Ok-Some.field-0-is c.in-Ok-Some.ensures.made c.in-Ok-Some.ensures.counted c.in-Ok-Some.ensures.sees in (Ok there.0, there.1)) in
     (None, came.0, came.1)
 
 pub returns-in-Err : goal.returns-in-Err
 returns-in-Err g c =
     let hash_by : g.row.S.Denot → ℕ = λ h. key_hash g.S.BuildHasher g.S.Hasher.Hasher h (g.K.Hash.hash_input c.args.key) in
-    let came = if_no_error g.V.Clone.is_clone _ c.args.key (hash_by c.args.self.now.engine.hasher) c.args.now c.args.self.now c.get_hashed.new.self c.args.clock.now c.get_hashed.new.clock (λ a. g.F.FnOnce.post c.args.init tt a) None (Err (Lookup c.args.key)) (got_refused g.V.Clone.is_clone _ c.args.key hash_by c.args.now c.args.self.now c.get_hashed.new.self c.args.clock.now c.get_hashed.new.clock (λ v. g.F.FnOnce.post c.args.init tt (Ok v)) c.in-Err.field-0 c.in-Err.ensures.made c.in-Err.ensures.counted c.in-Err.ensures.unchanged.0) in
+    let came = if_no_error g.V.Clone.is_clone _ c.args.key (hash_by c.args.self.now.engine.hasher) c.args.now c.args.self.now c.get_hashed.new.self c.args.clock.now c.get_hashed.new.clock (λ a. g.F.FnOnce.post c.args.init tt a) None (Err (Lookup c.args.key)) (Err None, got_refused g.V.Clone.is_clone _ c.args.key hash_by c.args.now c.args.self.now c.get_hashed.new.self c.args.clock.now c.get_hashed.new.clock (λ v. g.F.FnOnce.post c.args.init tt (Ok v)) c.in-Err.field-0 c.in-Err.ensures.made c.in-Err.ensures.counted c.in-Err.ensures.unchanged.0) in
     (None, came.0, came.1)
 
 pub returns-in-Err-init : goal.returns-in-Err-init

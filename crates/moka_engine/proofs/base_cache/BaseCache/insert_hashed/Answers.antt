@@ -1,54 +1,45 @@
-use Rattle.std.proofs.Common.{refl, sym, ap, ◌∙◌}
-use Rattle.moka_parts.specs.Runs.{Engine}
-use Rattle.moka_parts.specs.State.{is_disabled}
+use Rattle.std.proofs.Common.{refl, sym, ap}
 use Rattle.moka_parts.specs.declared.error.InsertError.TheVariants.{NumbersUsedUp}
 use Rattle.moka_engine.proofs.EngineSteps.{without_room, still_set}
-use Rattle.moka_engine.proofs.InsertSteps.{cache-updated, cache-inserted, stocked-updated, stocked-new-record, update_refused, update_returns, new_refused, new_returns}
+use Rattle.moka_engine.proofs.InsertSteps.{whole-updated, whole-inserted, update_refused, update_returns, new_refused, new_returns}
 use Rattle.moka_engine.proofs.base_cache.BaseCache.insert_hashed.Goals as goal
 
 pub returns-in-Err-reserve_operation : goal.returns-in-Err-reserve_operation
 returns-in-Err-reserve_operation g c =
-    update_refused g.X.Expiry.created g.X.Expiry.updated g.W.Weigher.weighs g.L.Listener.tells g.K.PartialEq.eq c.self.view_is c.self.inside.inner refl refl refl c.reserve_operation.new.self (ap without_room c.in-Err-reserve_operation.ensures.rest)
+    update_refused g.X.Expiry.created g.X.Expiry.updated g.W.Weigher.weighs g.L.Listener.tells g.K.PartialEq.eq c.self.view_is c.self.inside.inner refl c.reserve_operation.new.self (ap without_room c.in-Err-reserve_operation.ensures.rest)
     c.args.key c.args.hashes.hash c.args.value c.args.now c.in-Some.found (sym c.in-Some.ensures.found) c.in-Err-reserve_operation.error c.in-Err-reserve_operation.ensures.used_up
 
 pub invariant_of-self-2 : goal.invariant_of-self-2
 invariant_of-self-2 g c =
     let there = c.in-Some.ensures.numbered in
-    record {
-      cache = cache-updated c.self.invariant.cache c.self.inside.inner refl c.reserve_operation.new.self c.update-old.new.self (ap without_room c.in_default-reserve_operation.ensures.rest) g.X.Expiry.created g.X.Expiry.updated
-          c.notify.new.self (still_set g.L.Listener.tells c.self.inside.notifier c.notify.new.self _ c.notify.ensures)
-          c.args.key c.in-Some.handle.number c.in-Some.found there (sym c.in-Some.ensures.found) c.args.hashes.hash c.args.value c.args.now c.weigh-weight.result c.expires_at_update-expires.result c.expires_at_update-expires.ensures
-          (c.update-old.ensures.step c.in-Some.found (rw c.in_default-reserve_operation.ensures.rest there));
-      store = stocked-updated c.self.invariant.cache c.self.inside.inner refl c.reserve_operation.new.self c.update-old.new.self (ap without_room c.in_default-reserve_operation.ensures.rest) c.self.invariant.store c.in-Some.handle.number c.in-Some.found there c.args.hashes.hash _
-          (c.update-old.ensures.step c.in-Some.found (rw c.in_default-reserve_operation.ensures.rest there));
-    }
+    let rest = c.in_default-reserve_operation.ensures.rest in
+    whole-updated g.X.Expiry.created c.self.inside.inner c.reserve_operation.new.self c.update-old.new.self c.self.invariant refl (ap without_room rest) c.args.key c.args.hashes.hash
+    (record { value = c.args.value; now = c.args.now; expires = c.expires_at_update-expires.result; weight = c.weigh-weight.result })
+    g.X.Expiry.updated c.notify.new.self (still_set g.L.Listener.tells c.self.inside.notifier c.notify.new.self _ c.notify.ensures) c.in-Some.handle.number c.in-Some.found there (sym c.in-Some.ensures.found) c.expires_at_update-expires.ensures
+    (c.update-old.ensures.step c.in-Some.found (rw rest there))
 
 pub returns : goal.returns
 returns g c =
     let there = c.in-Some.ensures.numbered in
     let rest = c.in_default-reserve_operation.ensures.rest in
-    update_returns g.X.Expiry.created g.X.Expiry.updated g.W.Weigher.weighs g.L.Listener.tells g.K.PartialEq.eq c.self.view_is c.self.inside.inner refl refl refl c.reserve_operation.new.self (ap without_room c.in_default-reserve_operation.ensures.rest)
-    c.args.key c.args.hashes.hash c.args.value c.args.now c.self.inside.notifier c.self.invariant.cache refl c.notify.new.self c.update-old.new.self c.in-Some.handle.number c.in-Some.found there (sym c.in-Some.ensures.found) c.weigh-weight.result c.weigh-weight.ensures
+    update_returns g.X.Expiry.created g.X.Expiry.updated g.W.Weigher.weighs g.L.Listener.tells g.K.PartialEq.eq c.self.view_is c.self.inside.inner refl c.reserve_operation.new.self (ap without_room rest)
+    c.args.key c.args.hashes.hash c.args.value c.args.now c.self.invariant.cache c.notify.new.self c.update-old.new.self c.in-Some.handle.number c.in-Some.found there (sym c.in-Some.ensures.found) c.weigh-weight.result c.weigh-weight.ensures
     (λ p. c.in_default-reserve_operation.not-Err NumbersUsedUp (c.reserve_operation.ensures.used_up.1 p)) c.update-old.result.1 c.update-old.ensures.ticket c.expires_at_update-expires.result c.expires_at_update-expires.ensures
     (c.update-old.ensures.step c.in-Some.found (rw rest there)) c.update-old.result.0 (c.update-old.ensures.value c.in-Some.found (rw rest there)) c.cause_of_replacement-cause.result c.cause_of_replacement-cause.ensures c.notify.ensures
 
 pub returns-in-Err : goal.returns-in-Err
 returns-in-Err g c =
-    new_refused g.X.Expiry.created g.X.Expiry.updated g.W.Weigher.weighs g.L.Listener.tells g.K.PartialEq.eq c.self.view_is c.self.inside.inner refl refl refl c.reserve_record.new.self (ap without_room c.in-Err.ensures.rest)
+    new_refused g.X.Expiry.created g.X.Expiry.updated g.W.Weigher.weighs g.L.Listener.tells g.K.PartialEq.eq c.self.view_is c.self.inside.inner refl c.reserve_record.new.self (ap without_room c.in-Err.ensures.rest)
     c.args.key c.args.hashes.hash c.args.value c.args.now (sym c.in_default.ensures.found) c.in-Err.error c.in-Err.ensures.used_up
 
 pub invariant_of-self-in_default : goal.invariant_of-self-in_default
 invariant_of-self-in_default g c =
-    record {
-      cache = cache-inserted c.self.invariant.cache c.self.inside.inner refl c.reserve_record.new.self c.insert.new.self (ap without_room c.in_default-reserve_record.ensures.rest) g.X.Expiry.created g.met.K.Eq.laws
-          (ap (λ (x : Engine g.row.K.Denot g.row.V.Denot g.row.S.Denot g.row.X.Denot g.row.L.Denot g.row.P.Denot g.row.W.Denot). is_disabled x.state.capacity) c.self.view_is ∙ c.requires.enabled)
-          c.args.key (sym c.in_default.ensures.found)
-          c.args.hashes.hash c.args.value c.args.now c.weigh-weight.result c.expires_at_creation-expires.result c.expires_at_creation-expires.ensures c.insert.ensures.step;
-      store = stocked-new-record c.self.inside.inner c.reserve_record.new.self c.insert.new.self (ap without_room c.in_default-reserve_record.ensures.rest) c.self.invariant.store c.args.key c.args.hashes.hash _ c.insert.ensures.step;
-    }
+    whole-inserted g.X.Expiry.created c.self.inside.inner c.reserve_record.new.self c.insert.new.self c.self.invariant refl (ap without_room c.in_default-reserve_record.ensures.rest) c.args.key c.args.hashes.hash
+    (record { value = c.args.value; now = c.args.now; expires = c.expires_at_creation-expires.result; weight = c.weigh-weight.result })
+    g.met.K.Eq.laws (rw (← c.self.view_is) at c.requires.enabled) (sym c.in_default.ensures.found) c.expires_at_creation-expires.ensures c.insert.ensures.step
 
 pub returns-in_default : goal.returns-in_default
 returns-in_default g c =
-    new_returns g.X.Expiry.created g.X.Expiry.updated g.W.Weigher.weighs g.L.Listener.tells g.K.PartialEq.eq c.self.view_is c.self.inside.inner refl refl refl c.reserve_record.new.self (ap without_room c.in_default-reserve_record.ensures.rest)
+    new_returns g.X.Expiry.created g.X.Expiry.updated g.W.Weigher.weighs g.L.Listener.tells g.K.PartialEq.eq c.self.view_is c.self.inside.inner refl c.reserve_record.new.self (ap without_room c.in_default-reserve_record.ensures.rest)
     c.args.key c.args.hashes.hash c.args.value c.args.now (sym c.in_default.ensures.found) c.insert.new.self c.weigh-weight.result c.weigh-weight.ensures
     (λ p. c.in_default-reserve_record.not-Err NumbersUsedUp (c.reserve_record.ensures.used_up.1 p)) c.insert.result c.insert.ensures.ticket c.expires_at_creation-expires.result c.expires_at_creation-expires.ensures c.insert.ensures.step

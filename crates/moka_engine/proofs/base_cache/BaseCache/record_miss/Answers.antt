@@ -1,17 +1,13 @@
-use Rattle.std.proofs.Common.{refl, List, ℕ}
+use Rattle.std.proofs.Common.{refl}
 use Rattle.moka_parts.specs.declared.records.ReadOperation.TheVariants.{Miss}
-use Rattle.moka_parts.specs.Listed.{ListedRun}
-use Rattle.moka_engine.proofs.GetSteps.{cache-queued}
+use Rattle.moka_engine.proofs.GetSteps.{whole-queued}
 use Rattle.moka_engine.proofs.KeeperSteps.{read_follows}
 use Rattle.moka_engine.proofs.base_cache.BaseCache.record_miss.Goals as goal
 
 pub invariant_of-self : goal.invariant_of-self
-invariant_of-self g c = record {
-  store = rw c.queue_read.ensures c.self.invariant.store;
-  cache = cache-queued c.self.invariant.cache c.self.inside.inner refl (Miss c.args.hash) c.queue_read.new.self c.queue_read.ensures;
-}
+invariant_of-self g c = whole-queued c.self.inside.inner c.self.invariant refl (Miss c.args.hash) c.queue_read.new.self c.queue_read.ensures
 
 pub returns-clause-enabled : goal.returns-clause-enabled
 returns-clause-enabled g c = λ _.
-    read_follows (λ (after : List ℕ). ListedRun g.P.PredicateFn.says g.X.Expiry.read c.args.self.now.write_list after) g.L.Listener.tells g.C.Clock.reads c.args.self.now c.args.now.0 c.args.clock.now c.apply_reads_if_needed.new.clock c.self.view_is c.apply_reads_if_needed.ensures
-    c.self.inside.inner c.queue_read.new.self refl refl refl (Miss c.args.hash) c.queue_read.ensures
+    read_follows g.P.PredicateFn.says g.X.Expiry.read g.L.Listener.tells g.C.Clock.reads c.args.self.now c.args.now.0 c.args.clock.now c.apply_reads_if_needed.new.clock c.self.view_is c.apply_reads_if_needed.ensures
+    c.self.inside.inner refl (Miss c.args.hash) c.queue_read.new.self c.queue_read.ensures

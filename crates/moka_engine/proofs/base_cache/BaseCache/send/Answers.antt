@@ -1,16 +1,9 @@
-use Rattle.std.proofs.Common.{refl, ap}
-use Rattle.moka_engine.proofs.SendSteps.{cache-sent, send-keeps}
-use Rattle.moka_store.specs.Store.{Kept}
-use Rattle.moka_engine.proofs.EngineSteps.{befalls-listed}
+use Rattle.std.proofs.Common.{refl}
+use Rattle.moka_engine.proofs.SendSteps.{whole-sent, befalls-sent}
 use Rattle.moka_engine.proofs.base_cache.BaseCache.send.Goals as goal
 
 pub invariant_of-self : goal.invariant_of-self
-invariant_of-self g c = record {
-  cache = cache-sent c.self.invariant.cache c.self.inside.inner c.send.new.self refl c.args.ticket.0 c.send.result c.send.ensures.ok c.send.ensures.err;
-  store = rw (send-keeps c.self.invariant.cache c.self.inside.inner c.send.new.self refl c.args.ticket.0 c.send.result c.send.ensures.ok c.send.ensures.err) c.self.invariant.store;
-}
+invariant_of-self g c = whole-sent c.self.inside.inner c.send.new.self c.args.ticket.0 c.self.invariant refl c.send.result (c.send.ensures.ok, c.send.ensures.err)
 
 pub returns-clause-events : goal.returns-clause-events
-returns-clause-events g c =
-    let same = send-keeps c.self.invariant.cache c.self.inside.inner c.send.new.self refl c.args.ticket.0 c.send.result c.send.ensures.ok c.send.ensures.err in
-    rw (← c.self.view_is) (befalls-listed g.L.Listener.tells _ _ c.send.new.self.kept (ap (λ (k : Kept g.row.K.Denot g.row.V.Denot g.row.S.Denot). k.written) same) (ap (λ (k : Kept g.row.K.Denot g.row.V.Denot g.row.S.Denot). k.hasher) same))
+returns-clause-events g c = befalls-sent c.self.inside.inner c.send.new.self c.args.ticket.0 g.L.Listener.tells c.self.view_is refl c.send.result (c.send.ensures.ok, c.send.ensures.err)

@@ -4,16 +4,14 @@ use Rattle.moka_index.specs.Groups.{entries_of}
 use Rattle.moka_index.proofs.Maps.{len-inserted}
 use Rattle.moka_index.proofs.place_index.PlaceIndex.insert.Goals as goal
 
-pub insert_entry-requires-clause-groups : goal.insert_entry-requires-clause-groups
-insert_entry-requires-clause-groups c = c.self.invariant.groups_are
-
-pub insert_entry-requires-clause-fresh : goal.insert_entry-requires-clause-fresh
-insert_entry-requires-clause-fresh c = rw (← c.self.view_is) at c.requires.fresh
-
-pub insert_entry-requires-clause-room : goal.insert_entry-requires-clause-room
-insert_entry-requires-clause-room c =
+pub insert_entry-requires : goal.insert_entry-requires
+insert_entry-requires c =
     let room = rw (← c.self.view_is) at c.requires.room in
-    omega (arith, room, c.self.invariant.counted, c.self.invariant.fits)
+    record {
+      groups = c.self.invariant.groups_are;
+      fresh = rw (← c.self.view_is) at c.requires.fresh;
+      room = omega (arith, room, c.self.invariant.counted, c.self.invariant.fits);
+    }
 
 pub invariant_of-self : goal.invariant_of-self
 invariant_of-self c =

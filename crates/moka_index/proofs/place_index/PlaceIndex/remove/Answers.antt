@@ -4,11 +4,8 @@ use Rattle.moka_index.specs.Groups.{entries_of}
 use Rattle.moka_index.proofs.Maps.{len-removed, len-some}
 use Rattle.moka_index.proofs.place_index.PlaceIndex.remove.Goals as goal
 
-pub remove_entry-requires-clause-groups : goal.remove_entry-requires-clause-groups
-remove_entry-requires-clause-groups c = c.self.invariant.groups_are
-
-pub remove_entry-requires-clause-there : goal.remove_entry-requires-clause-there
-remove_entry-requires-clause-there c = rw (← c.self.view_is) at c.requires
+pub remove_entry-requires : goal.remove_entry-requires
+remove_entry-requires c = record { groups = c.self.invariant.groups_are; there = rw (← c.self.view_is) at c.requires }
 
 pub overflow_sub-self : goal.overflow_sub-self
 overflow_sub-self c =

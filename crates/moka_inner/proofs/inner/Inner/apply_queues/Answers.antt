@@ -6,10 +6,8 @@ use Rattle.moka_maintenance.specs.Queues.{AreApplied, ArePrepared}
 use Rattle.moka_maintenance.specs.Steps.{contents_with}
 use Rattle.moka_maintenance.specs.Timers.{KeepsTimers}
 use Rattle.moka_maintenance.proofs.Timing.{keeps-on}
-use Rattle.moka_maintenance.proofs.AllApplied.{prepared}
 use Rattle.moka_inner.specs.Interior.{Interior}
-use Rattle.moka_inner.proofs.InnerLemmas.{read_at}
-use Rattle.moka_inner.proofs.InnerRuns.{inner-applied}
+use Rattle.moka_inner.proofs.InnerLemmas.{read_at, inner-applied}
 use Rattle.moka_inner.proofs.inner.Inner.apply_queues.Goals as goal
 
 pub apply_reads-requires : goal.apply_reads-requires
@@ -33,7 +31,7 @@ returns-clause-prepared g c =
     (subst (λ b. AreApplied g.L.Listener.tells c.args.bounds.capacity c.args.bounds.policy b (contents_with c.apply_reads.new.sketch c.apply_reads.new.store) (contents_with c.apply_reads.new.sketch c.apply_writes.new.store) c.apply_reads.new.store.written c.apply_writes.new.store.written (writes_of c.self.inside.writes.items) c.args.notifier.now c.apply_writes.new.notifier) ordered c.apply_writes.ensures.applied.applied)) in
     let on = c.enable_frequency_sketch.ensures in
     subst (λ (i : Interior g.row.K.Denot g.row.V.Denot g.row.S.Denot). ArePrepared g.L.Listener.tells c.args.bounds.capacity c.args.bounds.policy i.kept.ordered c.args.bounds.has_weigher (after_reads (contents_with i.sketch i.kept) i.reads) (contents_with c.enable_frequency_sketch.new.sketch c.apply_writes.new.store) i.kept.written c.apply_writes.new.store.written i.writes c.args.notifier.now c.apply_writes.new.notifier) c.self.view_is
-    (prepared g.L.Listener.tells c.args.bounds.capacity c.args.bounds.policy c.self.inside.store.ordered c.args.bounds.has_weigher on.0 _ (contents_with c.apply_reads.new.sketch c.apply_writes.new.store) (contents_with c.enable_frequency_sketch.new.sketch c.apply_writes.new.store) c.self.inside.store.written c.apply_writes.new.store.written (writes_of c.self.inside.writes.items) c.args.notifier.now c.apply_writes.new.notifier applied on.1)
+    record { between = contents_with c.apply_reads.new.sketch c.apply_writes.new.store; applied = applied; is_short = on.0; enabled = on.1 }
 
 pub returns-clause-timers : goal.returns-clause-timers
 returns-clause-timers g c =

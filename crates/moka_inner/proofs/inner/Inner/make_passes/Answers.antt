@@ -3,7 +3,7 @@ use Rattle.moka_maintenance.specs.Steps.{MayRun}
 use Rattle.moka_maintenance.specs.Sweeps.{tests_in}
 use Rattle.moka_maintenance.specs.Timers.{KeepsTimers}
 use Rattle.moka_inner.specs.Interior.{Interior}
-use Rattle.moka_inner.proofs.InnerRuns.{inner-passed}
+use Rattle.moka_inner.proofs.InnerLemmas.{inner-passed}
 use Rattle.moka_inner.proofs.inner.Inner.make_passes.Goals as goal
 
 pub invariant_of-self : goal.invariant_of-self

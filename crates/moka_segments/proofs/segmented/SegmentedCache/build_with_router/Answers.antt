@@ -18,8 +18,9 @@ loop-index-preserved g c = record {
 pub from_parts-requires : goal.from_parts-requires
 from_parts-requires g c = at_end (length c.loop-index.segments.items) c.loop-index.index c.count-index-end.result c.args.router.count c.loop-index.invariant.as_many c.loop-index-test.false c.loop-index.auto.index-end c.count-index-end.ensures.same
 
-pub returns-clause-new : goal.returns-clause-new
-returns-clause-new g c = is_new c.args.router c.args.max_capacity g.S.Clone.is_clone c.args.now.0 (λ index config. goal.F-post g c.args.make index config) c.loop-index.segments.items c.from_parts.result c.from_parts.ensures (subst (λ n. 0 < n) c.count-index-end.ensures.same c.count-index-end.ensures.some) (at_end (length c.loop-index.segments.items) c.loop-index.index c.count-index-end.result c.args.router.count c.loop-index.invariant.as_many c.loop-index-test.false c.loop-index.auto.index-end c.count-index-end.ensures.same) c.loop-index.invariant.built
-
-pub returns-clause-empty : goal.returns-clause-empty
-returns-clause-empty g c = new_holds_none c.args.router c.args.max_capacity g.S.Clone.is_clone c.args.now.0 (λ index config. goal.F-post g c.args.make index config) c.from_parts.result (is_new c.args.router c.args.max_capacity g.S.Clone.is_clone c.args.now.0 (λ index config. goal.F-post g c.args.make index config) c.loop-index.segments.items c.from_parts.result c.from_parts.ensures (subst (λ n. 0 < n) c.count-index-end.ensures.same c.count-index-end.ensures.some) (at_end (length c.loop-index.segments.items) c.loop-index.index c.count-index-end.result c.args.router.count c.loop-index.invariant.as_many c.loop-index-test.false c.loop-index.auto.index-end c.count-index-end.ensures.same) c.loop-index.invariant.built)
+pub returns : goal.returns
+returns g c =
+    let as_many = at_end (length c.loop-index.segments.items) c.loop-index.index c.count-index-end.result c.args.router.count c.loop-index.invariant.as_many c.loop-index-test.false c.loop-index.auto.index-end c.count-index-end.ensures.same in
+    let some : 0 < c.args.router.count = subst (λ n. 0 < n) c.count-index-end.ensures.same c.count-index-end.ensures.some in
+    let new = is_new c.args.router c.args.max_capacity g.S.Clone.is_clone c.args.now.0 (λ index config. goal.F-post g c.args.make index config) c.loop-index.segments.items c.from_parts.result c.from_parts.ensures some as_many c.loop-index.invariant.built in
+    record { new = new; empty = new_holds_none c.args.router c.args.max_capacity g.S.Clone.is_clone c.args.now.0 (λ index config. goal.F-post g c.args.make index config) c.from_parts.result new }

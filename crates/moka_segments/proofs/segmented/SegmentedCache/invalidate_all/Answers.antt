@@ -4,8 +4,5 @@ use Rattle.moka_segments.proofs.segmented.SegmentedCache.invalidate_all.Goals as
 pub invariant_of-self : goal.invariant_of-self
 invariant_of-self g c = c.hide_all.ensures.as_many ∙ c.self.invariant
 
-pub returns-clause-routing : goal.returns-clause-routing
-returns-clause-routing g c = rw (← c.self.view_is) refl
-
-pub returns-clause-each : goal.returns-clause-each
-returns-clause-each g c = rw (← c.self.view_is) c.hide_all.ensures.each
+pub returns : goal.returns
+returns g c = record { routing = rw (← c.self.view_is) refl; each = rw (← c.self.view_is) c.hide_all.ensures.each }

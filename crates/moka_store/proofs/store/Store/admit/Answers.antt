@@ -3,12 +3,11 @@ use Rattle.std.proofs.Common.{◌<◌, ◌^◌, ◌≡◌, ◌+◌, map, length,
 use Rattle.moka_store.proofs.Members.{counted-admitted}
 use Rattle.std.specs.Option.{option_map, option_and_then}
 use Rattle.moka_store.specs.declared.table.membership.Membership.{Membership}
-use Rattle.moka_store.specs.StoreRows.{access_in, written_in}
+use Rattle.moka_store.specs.StoreRows.{access_in, written_in, member_at}
 use Rattle.moka_store.proofs.Slots.{slots-below}
 use Rattle.moka_store.proofs.Orders.{enters}
 use Rattle.moka_store.proofs.Steps.{placed, unlisted, admitted}
 use Rattle.moka_store.specs.Listing.{Listing}
-use Rattle.moka_store.specs.StoreRows.{member_at}
 use Rattle.moka_store.specs.Weights.{IsWeighed}
 use Rattle.moka_store.proofs.Weights.{weighed-pushed, weighed-fits}
 use Rattle.moka_parts.specs.Records.{counted_of}
@@ -51,8 +50,8 @@ invariant_of-self g c =
     let fits = c.self.invariant.fits in
     record { tied = s.tied; written = order.written; timed = order.timed; keyed = c.self.invariant.keyed ∙ sym (ap finite.len c.set_membership-none.ensures.records); fits = (let most = ap (λ (l : Listing). l.most) p.rest in omega arith); few = c.push_back-access.ensures.few; narrow = subst AreNarrow (sym c.set_membership-none.ensures.places) c.self.invariant.narrow; weighed = subst (λ members. IsWeighed members (c.self.inside.weight + c.args.weight)) (sym s.access) (weighed-pushed w.row.number c.args.weight _ _ c.self.invariant.weighed (ap (λ n. counted_of n (map (member_at c.self.inside.table.rows) c.self.inside.access.members)) w.number_is ∙ (rw (← c.self.view_is) at c.requires.apart)) c.ranges.weight.fits) }
 
-pub returns-clause-step : goal.returns-clause-step
-returns-clause-step g c =
+pub returns : goal.returns
+returns g c =
     let w = placed _ _ _ _ c.self.invariant.tied _ _ (rw (← c.self.view_is) at c.requires.placed) in
     let none = unlisted _ _ _ _ c.self.invariant.tied _ _ (rw (← c.self.view_is) at c.requires.placed) w (rw (← c.self.view_is) at c.requires.apart) in
     let s = admitted _ g.met.K.Eq.laws _ _ _ _ _ c.self.invariant.tied w.row w.at_is (record { counted = c.args.weight; access = c.push_back-access.result; written = c.push_back-written.result }) _ none c.push_back-access.ensures.fresh c.push_back-access.ensures.members c.push_back-access.ensures.lookups (c.set_membership-none.ensures.changes _ w.at_is) in
@@ -64,14 +63,12 @@ returns-clause-step g c =
     let sum : length c.push_back-access.new.self.members + c.push_back-access.new.self.room ≡ length c.self.inside.access.members + c.self.inside.access.room = omega arith in
     let most = ap (λ (l : Listing). l.most) p.rest in
     let ordered = ap (λ (l : Listing). l.ordered) p.rest in
-    rw (s.access, order.written_is, order.cursor_is, order.timers_is, most, ordered, c.set_membership-none.ensures.records, c.set_membership-none.ensures.places, c.set_membership-none.ensures.len, c.set_membership-none.ensures.room, sum, w.number_is, ← c.self.view_is) refl
-
-pub returns-clause-counted : goal.returns-clause-counted
-returns-clause-counted g c n =
-    let w = placed _ _ _ _ c.self.invariant.tied _ _ (rw (← c.self.view_is) at c.requires.placed) in
-    let none = unlisted _ _ _ _ c.self.invariant.tied _ _ (rw (← c.self.view_is) at c.requires.placed) w (rw (← c.self.view_is) at c.requires.apart) in
-    let s = admitted _ g.met.K.Eq.laws _ _ _ _ _ c.self.invariant.tied w.row w.at_is (record { counted = c.args.weight; access = c.push_back-access.result; written = c.push_back-written.result }) _ none c.push_back-access.ensures.fresh c.push_back-access.ensures.members c.push_back-access.ensures.lookups (c.set_membership-none.ensures.changes _ w.at_is) in
-    rw (s.access, w.number_is, ← c.self.view_is) (counted-admitted c.args.handle.number n c.args.weight (map (member_at c.self.inside.table.rows) c.self.inside.access.members) (rw (← c.self.view_is) at c.requires.apart))
+    record {
+      step = rw (s.access, order.written_is, order.cursor_is, order.timers_is, most, ordered, c.set_membership-none.ensures.records, c.set_membership-none.ensures.places, c.set_membership-none.ensures.len, c.set_membership-none.ensures.room, sum, w.number_is, ← c.self.view_is) refl;
+      counted = λ n. rw (s.access, w.number_is, ← c.self.view_is) (counted-admitted c.args.handle.number n c.args.weight (map (member_at c.self.inside.table.rows) c.self.inside.access.members) (rw (← c.self.view_is) at c.requires.apart));
+      places = rw (← c.self.view_is) c.set_membership-none.ensures.places;
+      records = rw (← c.self.view_is) c.set_membership-none.ensures.records;
+    }
 
 pub overflow_add-self : goal.overflow_add-self
 overflow_add-self g c =

@@ -34,32 +34,20 @@ invariant_of-self-2 g c =
     let fits = c.self.invariant.fits in
     record { tied = s.tied; written = order.written; timed = order.timed; keyed = c.self.invariant.keyed ∙ sym (ap finite.len c.set_timer-slot.ensures.records); fits = omega arith; few = c.self.invariant.few; narrow = subst AreNarrow (sym c.set_timer-slot.ensures.places) c.self.invariant.narrow; weighed = subst (λ members. IsWeighed members c.self.inside.weight) (sym s.access) c.self.invariant.weighed }
 
-pub returns-clause-due : goal.returns-clause-due
-returns-clause-due g c =
+pub returns : goal.returns
+returns g c =
     let r = timer-row c.self.inside.table.rows c.self.inside.timers.timers c.self.invariant.timed c.self.invariant.tied.numbered _ _ _ c.in_ok-due.ensures.due in
     let changes = c.set_timer-slot.ensures.changes _ r.at_is in
-    (c.in_ok-due.due.at, rw (c.handle_at.ensures.number _ changes.changed, ← c.self.view_is) r.moment_is, c.in_ok-due.ensures.late)
-
-pub returns-clause-placed : goal.returns-clause-placed
-returns-clause-placed g c =
-    let r = timer-row c.self.inside.table.rows c.self.inside.timers.timers c.self.invariant.timed c.self.invariant.tied.numbered _ _ _ c.in_ok-due.ensures.due in
-    let changes = c.set_timer-slot.ensures.changes _ r.at_is in
-    let s = retimed _ g.met.K.Eq.laws _ _ _ _ _ c.self.invariant.tied r.row r.at_is None changes in
-    rw (c.handle_at.ensures.number _ changes.changed, c.handle_at.ensures.place) (get-places _ s.tied.numbered _ (record r.row { timer = None }) changes.changed)
-
-pub returns-clause-member : goal.returns-clause-member
-returns-clause-member g c =
-    let r = timer-row c.self.inside.table.rows c.self.inside.timers.timers c.self.invariant.timed c.self.invariant.tied.numbered _ _ _ c.in_ok-due.ensures.due in
-    let changes = c.set_timer-slot.ensures.changes _ r.at_is in
-    let s = retimed _ g.met.K.Eq.laws _ _ _ _ _ c.self.invariant.tied r.row r.at_is None changes in
-    rw (c.handle_at.ensures.number _ changes.changed) (counted-member _ _ _ _ s.tied _ (record r.row { timer = None }) changes.changed r.member)
-
-pub returns-clause-step : goal.returns-clause-step
-returns-clause-step g c =
-    let r = timer-row c.self.inside.table.rows c.self.inside.timers.timers c.self.invariant.timed c.self.invariant.tied.numbered _ _ _ c.in_ok-due.ensures.due in
-    let changes = c.set_timer-slot.ensures.changes _ r.at_is in
+    let number = c.handle_at.ensures.number _ changes.changed in
     let s = retimed _ g.met.K.Eq.laws _ _ _ _ _ c.self.invariant.tied r.row r.at_is None changes in
     let order = untimes c.self.inside.table.rows c.set_timer-slot.new.self.rows c.self.inside.written c.self.inside.timers.timers c.due.new.self.timers c.self.invariant.written c.self.invariant.timed c.self.invariant.tied.numbered _ r.row r.at_is changes (Some c.in_ok-due.due.slot) (sym r.timer_is) None true refl c.in_ok-due.ensures.lookups in
     let most = ap (λ (t : Timing). t.most) c.in_ok-due.ensures.rest in
     let timed = ap (λ (t : Timing). t.timed) c.in_ok-due.ensures.rest in
-    rw (c.handle_at.ensures.number _ changes.changed, s.access, order.written_is, order.cursor_is, order.timers_is, most, timed, c.set_timer-slot.ensures.records, c.set_timer-slot.ensures.places, c.set_timer-slot.ensures.len, c.set_timer-slot.ensures.room, ← c.self.view_is) refl
+    record {
+      due = (c.in_ok-due.due.at, rw (number, ← c.self.view_is) r.moment_is, c.in_ok-due.ensures.late);
+      placed = rw (number, c.handle_at.ensures.place) (get-places _ s.tied.numbered _ (record r.row { timer = None }) changes.changed);
+      member = rw number (counted-member _ _ _ _ s.tied _ (record r.row { timer = None }) changes.changed r.member);
+      step = rw (number, s.access, order.written_is, order.cursor_is, order.timers_is, most, timed, c.set_timer-slot.ensures.records, c.set_timer-slot.ensures.places, c.set_timer-slot.ensures.len, c.set_timer-slot.ensures.room, ← c.self.view_is) refl;
+      none = tt;
+      unchanged = tt;
+    }

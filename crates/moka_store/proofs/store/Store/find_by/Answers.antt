@@ -6,8 +6,7 @@ use Rattle.moka_store.proofs.TableCalls.{get-records, get-places}
 use Rattle.moka_store.specs.RecordTable.{records_of}
 use Rattle.moka_store.specs.StoreRows.{passes_at}
 use Rattle.moka_store.proofs.Steps.{record-of-absent, one-each}
-use Rattle.moka_store.proofs.Tests.{passes-as_key}
-use Rattle.moka_store.proofs.Looked.{live-row}
+use Rattle.moka_store.proofs.Looked.{live-row, passes-as_key}
 use Rattle.moka_store.proofs.store.Store.find_by.Goals as goal
 
 pub returns-in_err-place-clause-value : goal.returns-in_err-place-clause-value
@@ -22,27 +21,17 @@ returns-in_err-place-clause-value g c =
     (λ p h. sym (passes-as_key g.K.PartialEq.eq passes key (λ y. one_key key y passing) rows p) ∙ none p (h ∙ ap Some (sym (hashed key passing)))))
     (λ r impossible. cc)))
 
-pub returns-clause-handle : goal.returns-clause-handle
-returns-clause-handle g c =
-    let w = live-row c.self.inside.table.rows c.in_ok-place.place c.in-Some.number c.in-Some.stored c.in-Some.ensures.number c.in-Some.ensures.stored in
-    rw (w.number_is, ← c.self.view_is) (record {
-      placed = get-places _ c.self.invariant.tied.numbered _ _ w.at_is;
-      stored = rw (get-records _ c.self.invariant.tied.numbered _ _ w.at_is, w.stored_is) refl;
-    })
-
-pub returns-clause-found : goal.returns-clause-found
-returns-clause-found g c =
-    let w = live-row c.self.inside.table.rows c.in_ok-place.place c.in-Some.number c.in-Some.stored c.in-Some.ensures.number c.in-Some.ensures.stored in
-    rw (w.number_is, ← c.self.view_is) (get-records _ c.self.invariant.tied.numbered _ _ w.at_is ∙ w.stored_is)
-
-pub returns-clause-value : goal.returns-clause-value
-returns-clause-value g c =
-    let passes = g.T.KeyTest.passes c.args.test.now in
-    let rows = c.self.inside.table.rows in
+pub returns : goal.returns
+returns g c =
     let key = c.in-Some.stored.key in
     let laws = g.met.K.Eq.laws in
-    let passing : passes key ≡ true = search (rules, c.in_ok-place.ensures.passes, c.in-Some.ensures.stored) in
+    let passing : g.T.KeyTest.passes c.args.test.now key ≡ true = search (rules, c.in_ok-place.ensures.passes, c.in-Some.ensures.stored) in
     let w = live-row c.self.inside.table.rows c.in_ok-place.place c.in-Some.number c.in-Some.stored c.in-Some.ensures.number c.in-Some.ensures.stored in
     let there = get-records _ c.self.invariant.tied.numbered _ _ w.at_is ∙ w.stored_is in
-    let own = present_key g.K.PartialEq.eq (records_of rows) key laws (one-each _ _ _ _ c.self.invariant.tied laws).one_each _ _ there (laws.refl key) in
-    rw (← c.self.view_is) (sym (record_by_key g.K.PartialEq.eq passes (g.met.T.KeyTest.one_key c.args.test.now) (records_of rows) key passing ∙ own))
+    let own = present_key g.K.PartialEq.eq (records_of c.self.inside.table.rows) key laws (one-each _ _ _ _ c.self.invariant.tied laws).one_each _ _ there (laws.refl key) in
+    record {
+      handle = rw (w.number_is, ← c.self.view_is) (record { placed = get-places _ c.self.invariant.tied.numbered _ _ w.at_is; stored = rw there refl });
+      found = rw (w.number_is, ← c.self.view_is) there;
+      passes = passing;
+      value = rw (← c.self.view_is) (sym (record_by_key g.K.PartialEq.eq (g.T.KeyTest.passes c.args.test.now) (g.met.T.KeyTest.one_key c.args.test.now) (records_of c.self.inside.table.rows) key passing ∙ own));
+    }

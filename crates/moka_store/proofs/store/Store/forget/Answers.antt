@@ -1,7 +1,7 @@
 use Rattle.std.specs.FinMap as finite
+use Rattle.std.proofs.lemmas.Grind.{common_steps}
 use Rattle.std.proofs.Common.{None, refl, ap, ◌∙◌, arith, sym, subst}
-use Rattle.std.specs.FinMap.{get, remove}
-use Rattle.moka_store.specs.RecordTable.{places_of}
+use Rattle.std.specs.FinMap.{get}
 use Rattle.moka_index.proofs.Maps.{get-past_remove}
 use Rattle.std.specs.Option.{option_and_then}
 use Rattle.moka_store.specs.RecordTable.{Row}
@@ -14,8 +14,7 @@ use Rattle.moka_store.proofs.store.Store.forget.Goals as goal
 
 pub forget-requires : goal.forget-requires
 forget-requires g c =
-    let bare = bare-row _ _ _ _ c.self.invariant.tied _ _ (rw (← c.self.view_is) at c.requires.placed) _ c.self.invariant.timed (rw (← c.self.view_is) at c.requires.gone) (rw (← c.self.view_is) at c.requires.apart) in
-    bare
+    bare-row _ _ _ _ c.self.invariant.tied _ _ (rw (← c.self.view_is) at c.requires.placed) _ c.self.invariant.timed (rw (← c.self.view_is) at c.requires.gone) (rw (← c.self.view_is) at c.requires.apart)
 
 pub invariant_of-self : goal.invariant_of-self
 invariant_of-self g c =
@@ -27,25 +26,16 @@ invariant_of-self g c =
     let fits = c.self.invariant.fits in
     record { tied = s.tied; written = stay.written; timed = stay.timed; keyed = c.self.invariant.keyed ∙ sym (ap finite.len c.forget.ensures.records); fits = omega arith; few = c.self.invariant.few; narrow = λ n place there. c.self.invariant.narrow n place (after_remove _ _ n place (sym (ap (λ places. get places n) c.forget.ensures.places) ∙ there)).1; weighed = subst (λ members. IsWeighed members c.self.inside.weight) (sym s.access) c.self.invariant.weighed }
 
-pub returns-clause-step : goal.returns-clause-step
-returns-clause-step g c =
+pub returns : goal.returns
+returns g c =
     let bare = bare-row _ _ _ _ c.self.invariant.tied _ _ (rw (← c.self.view_is) at c.requires.placed) _ c.self.invariant.timed (rw (← c.self.view_is) at c.requires.gone) (rw (← c.self.view_is) at c.requires.apart) in
     let w = placed _ _ _ _ c.self.invariant.tied _ _ (rw (← c.self.view_is) at c.requires.placed) in
     let s = forgotten _ g.met.K.Eq.laws _ _ _ _ _ c.self.invariant.tied _ bare refl refl c.forget.ensures.changes in
     let stay = stays-bare c.self.inside.table.rows c.forget.new.self.rows c.self.inside.written c.self.inside.timers.timers c.self.invariant.written c.self.invariant.timed c.self.invariant.tied.numbered s.tied.numbered _ None c.forget.ensures.changes (ap (option_and_then (λ (row : Row (Record _ _)). row.membership)) bare) (ap (option_and_then (λ (row : Row (Record _ _)). row.timer)) bare) refl refl in
-    rw (s.access, stay.written_is, stay.cursor_is, stay.timers_is, c.forget.ensures.records, c.forget.ensures.places, w.number_at_is, ← c.self.view_is) refl
-
-pub returns-clause-kept : goal.returns-clause-kept
-returns-clause-kept g c other ne e =
-    let w = placed _ _ _ _ c.self.invariant.tied _ _ (rw (← c.self.view_is) at c.requires.placed) in
-    let e' = rw (← c.self.view_is) at e in
-    ap (λ m. get m other.number) c.forget.ensures.places
-    ∙ ap (λ n. get (remove (places_of c.self.inside.table.rows) n) other.number) w.number_at_is
-    ∙ get-past_remove _ _ _ ne ∙ e'
-
-pub returns-clause-access : goal.returns-clause-access
-returns-clause-access g c =
-    let bare = bare-row _ _ _ _ c.self.invariant.tied _ _ (rw (← c.self.view_is) at c.requires.placed) _ c.self.invariant.timed (rw (← c.self.view_is) at c.requires.gone) (rw (← c.self.view_is) at c.requires.apart) in
-    let w = placed _ _ _ _ c.self.invariant.tied _ _ (rw (← c.self.view_is) at c.requires.placed) in
-    let s = forgotten _ g.met.K.Eq.laws _ _ _ _ _ c.self.invariant.tied _ bare refl refl c.forget.ensures.changes in
-    rw (s.access, ← c.self.view_is) refl
+    record {
+      step = rw (s.access, stay.written_is, stay.cursor_is, stay.timers_is, c.forget.ensures.records, c.forget.ensures.places, w.number_at_is, ← c.self.view_is) refl;
+      room = rw (← c.self.view_is) (grind (arith, common_steps, c.forget.ensures.len, c.forget.ensures.room));
+      kept = λ other ne e. rw (c.forget.ensures.places, w.number_at_is) (get-past_remove _ _ _ ne ∙ (rw (← c.self.view_is) at e));
+      records = rw (← c.self.view_is) c.forget.ensures.records;
+      access = rw (← c.self.view_is) s.access;
+    }

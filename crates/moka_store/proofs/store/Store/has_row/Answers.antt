@@ -5,31 +5,29 @@ use Rattle.std.specs.Option.{option_eq, option_map}
 use Rattle.moka_parts.specs.declared.records.Record.{Record}
 use Rattle.moka_store.specs.RecordTable.{Row, row_at, places_of}
 use Rattle.moka_store.proofs.TableCalls.{get-places, placed_row}
-use Rattle.moka_store.proofs.Looked.{no-row, numbered-row}
+use Rattle.moka_store.proofs.TableMaps.{made-of}
 use Rattle.moka_store.proofs.Places.{record-placed, member-placed, other-row}
 use Rattle.moka_store.proofs.store.Store.has_row.Goals as goal
 
-pub returns-clause-placed : goal.returns-clause-placed
-returns-clause-placed g c =
+pub returns : goal.returns
+returns g c =
     let tied = c.self.invariant.tied in
     let rows = c.self.inside.table.rows in
     let place = c.args.handle.place in
     let number = c.args.handle.number in
-    rw (c.eq.ensures, ← c.self.view_is) (elim c.number.result as (λ o. o ≡ option_map (λ (row : Row (Record g.row.K.Denot g.row.V.Denot)). row.number) (row_at rows place) →
-    (option_eq (◌==◌) o (Some number) ≡ true → finite.get (places_of rows) number ≡ Some place) × (finite.get (places_of rows) number ≡ Some place → option_eq (◌==◌) o (Some number) ≡ true)) [
-      | None ↦ λ told. (
-        (λ never. cc),
-        (λ there. (let w = placed_row rows tied.numbered place number there in let e : None ≡ Some w.0 = sym (no-row rows place told) ∙ w.1 in cc)),
-      )
-      | Some own ↦ λ told. (
-          let w = numbered-row rows place own told in (
-            (λ same. ap (finite.get (places_of rows)) (sym (sym w.2 ∙ eqb-true own number same)) ∙ get-places rows tied.numbered place w.0 w.1),
-            (λ there. eq-eqb own number (w.2 ∙ other-row g.K.PartialEq.eq rows _ _ tied place number w.0 w.1 there)),
-          ))
-    ] c.number.ensures)
-
-pub returns-clause-records : goal.returns-clause-records
-returns-clause-records g c = rw (← c.self.view_is) (record-placed g.K.PartialEq.eq c.self.inside.table.rows _ _ c.self.invariant.tied)
-
-pub returns-clause-members : goal.returns-clause-members
-returns-clause-members g c = rw (← c.self.view_is) (member-placed g.K.PartialEq.eq c.self.inside.table.rows _ _ c.self.invariant.tied)
+    record {
+      placed = rw (c.eq.ensures, ← c.self.view_is) (elim c.number.result as (λ o. o ≡ option_map (λ (row : Row (Record g.row.K.Denot g.row.V.Denot)). row.number) (row_at rows place) →
+          (option_eq (◌==◌) o (Some number) ≡ true → finite.get (places_of rows) number ≡ Some place) × (finite.get (places_of rows) number ≡ Some place → option_eq (◌==◌) o (Some number) ≡ true)) [
+            | None ↦ λ told. (
+              (λ never. cc),
+              (λ there. (let w = placed_row rows tied.numbered place number there in let e : None ≡ Some w.0.number = told ∙ ap (option_map (λ (row : Row (Record g.row.K.Denot g.row.V.Denot)). row.number)) w.1 in cc)),
+            )
+            | Some own ↦ λ told. (
+                let w = made-of (λ (row : Row (Record g.row.K.Denot g.row.V.Denot)). row.number) (row_at rows place) own (sym told) in (
+                  (λ same. ap (finite.get (places_of rows)) (sym (w.2 ∙ eqb-true own number same)) ∙ get-places rows tied.numbered place w.0 w.1),
+                  (λ there. eq-eqb own number (sym w.2 ∙ other-row g.K.PartialEq.eq rows _ _ tied place number w.0 w.1 there)),
+                ))
+          ] c.number.ensures);
+      records = rw (← c.self.view_is) (record-placed g.K.PartialEq.eq rows _ _ tied);
+      members = rw (← c.self.view_is) (member-placed g.K.PartialEq.eq rows _ _ tied);
+    }

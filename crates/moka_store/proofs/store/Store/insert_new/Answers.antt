@@ -1,11 +1,11 @@
 use Rattle.moka_store.proofs.Orders.{stays-bare}
 use Rattle.std.specs.Option.{option_and_then}
-use Rattle.moka_store.specs.RecordTable.{Row}
+use Rattle.moka_store.specs.RecordTable.{Row, records_of, places_of}
 use Rattle.moka_parts.specs.declared.records.Record.{Record}
 use Rattle.std.specs.FinMap as finite
 use Rattle.std.proofs.Common.{◌≢◌, ◌+◌, inl, inr, refl, sym, ap, ◌∙◌, arith, subst}
+use Rattle.std.proofs.lemmas.Grind.{common_steps}
 use Rattle.std.specs.FinMap.{get}
-use Rattle.moka_store.specs.RecordTable.{records_of, places_of}
 use Rattle.moka_index.proofs.Maps.{get-inserted, get-past_insert}
 use Rattle.moka_store.proofs.TableMaps.{row_at-within}
 use Rattle.moka_store.proofs.Gets.{after_insert, len-inserted}
@@ -40,38 +40,24 @@ invariant_of-self g c =
       weighed = subst (λ members. IsWeighed members c.self.inside.weight) (sym s.access) c.self.invariant.weighed;
     }
 
-pub returns-clause-step : goal.returns-clause-step
-returns-clause-step g c =
+pub returns : goal.returns
+returns g c =
     let fresh = rw (← c.self.view_is) at c.requires.fresh in
     let unknown = rw (← c.self.view_is) at c.requires.unknown in
     let s = inserted _ g.met.K.Eq.laws _ _ _ _ _ c.self.invariant.tied c.args.stored c.insert-place.ensures.vacant fresh (key-fresh _ _ _ _ c.self.invariant.tied _ unknown) c.insert-place.ensures.changes in
     let stay = stays-bare c.self.inside.table.rows c.insert-place.new.self.rows c.self.inside.written c.self.inside.timers.timers c.self.invariant.written c.self.invariant.timed c.self.invariant.tied.numbered s.tied.numbered _ _ c.insert-place.ensures.changes (ap (option_and_then (λ (row : Row (Record _ _)). row.membership)) c.insert-place.ensures.vacant) (ap (option_and_then (λ (row : Row (Record _ _)). row.timer)) c.insert-place.ensures.vacant) refl refl in
-    rw (s.access, stay.written_is, stay.cursor_is, stay.timers_is, c.insert-place.ensures.records, c.insert-place.ensures.places, ← c.self.view_is) refl
-
-pub returns-clause-handle : goal.returns-clause-handle
-returns-clause-handle g c =
     record {
-      placed = rw c.insert-place.ensures.places (get-inserted _ _ _);
-      stored = rw (c.insert-place.ensures.records, get-inserted (records_of c.self.inside.table.rows) c.args.stored.number c.args.stored) refl;
+      number = refl;
+      step = rw (s.access, stay.written_is, stay.cursor_is, stay.timers_is, c.insert-place.ensures.records, c.insert-place.ensures.places, ← c.self.view_is) refl;
+      room = (let room = rw (← c.self.view_is) at c.requires.room in rw (← c.self.view_is) (grind (arith, common_steps, c.insert-place.ensures.len, c.insert-place.ensures.room, c.insert.ensures.room)));
+      apart = rw s.access (counted-unplaced _ _ _ _ c.self.invariant.tied _ fresh);
+      handle = record {
+        placed = rw c.insert-place.ensures.places (get-inserted _ _ _);
+        stored = rw (c.insert-place.ensures.records, get-inserted (records_of c.self.inside.table.rows) c.args.stored.number c.args.stored) refl;
+      };
+      kept = λ other e.
+          let there = rw (← c.self.view_is) at e in
+          let apart : other.number ≢ c.args.stored.number = (λ q. let same = ap (get (places_of c.self.inside.table.rows)) q in cc) in
+          rw c.insert-place.ensures.places (get-past_insert _ _ _ _ apart ∙ there);
+      access = rw (s.access, ← c.self.view_is) refl;
     }
-
-pub returns-clause-kept : goal.returns-clause-kept
-returns-clause-kept g c other e =
-    let e' = rw (← c.self.view_is) at e in
-    let fresh = rw (← c.self.view_is) at c.requires.fresh in
-    let apart : other.number ≢ c.args.stored.number = (λ q. let same = ap (get (places_of c.self.inside.table.rows)) q in cc) in
-    ap (λ m. get m other.number) c.insert-place.ensures.places ∙ get-past_insert _ _ _ _ apart ∙ e'
-
-pub returns-clause-apart : goal.returns-clause-apart
-returns-clause-apart g c =
-    let fresh = rw (← c.self.view_is) at c.requires.fresh in
-    let unknown = rw (← c.self.view_is) at c.requires.unknown in
-    let s = inserted _ g.met.K.Eq.laws _ _ _ _ _ c.self.invariant.tied c.args.stored c.insert-place.ensures.vacant fresh (key-fresh _ _ _ _ c.self.invariant.tied _ unknown) c.insert-place.ensures.changes in
-    rw s.access (counted-unplaced _ _ _ _ c.self.invariant.tied _ fresh)
-
-pub returns-clause-access : goal.returns-clause-access
-returns-clause-access g c =
-    let fresh = rw (← c.self.view_is) at c.requires.fresh in
-    let unknown = rw (← c.self.view_is) at c.requires.unknown in
-    let s = inserted _ g.met.K.Eq.laws _ _ _ _ _ c.self.invariant.tied c.args.stored c.insert-place.ensures.vacant fresh (key-fresh _ _ _ _ c.self.invariant.tied _ unknown) c.insert-place.ensures.changes in
-    rw (s.access, ← c.self.view_is) refl

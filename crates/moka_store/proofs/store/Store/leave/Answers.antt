@@ -48,8 +48,8 @@ invariant_of-self g c =
     let fits = c.self.invariant.fits in
     record { tied = s.tied; written = order.written; timed = order.timed; keyed = c.self.invariant.keyed ∙ sym (ap finite.len c.clear_membership.ensures.records); fits = omega arith; few = (let few = c.self.invariant.few in omega arith); narrow = subst AreNarrow (sym c.clear_membership.ensures.places) c.self.invariant.narrow; weighed = subst (λ members. IsWeighed members (c.self.inside.weight - c.in-Some.membership.counted)) (sym s.access) (weighed-without w.row.number _ _ _ c.self.invariant.weighed (ap (λ n. counted_of n (map (member_at c.self.inside.table.rows) c.self.inside.access.members)) w.number_is ∙ w.counted_is)) }
 
-pub returns-clause-step : goal.returns-clause-step
-returns-clause-step g c =
+pub returns : goal.returns
+returns g c =
     let same = c.self.view_is ∙ c.clear_timer.ensures in
     let w = member-row _ _ _ _ c.self.invariant.tied _ _ (ap (λ (k : Kept _ _ _). finite.get k.places c.args.handle.number) same ∙ c.requires.placed) _ (sym c.clear_membership.ensures.old ∙ c.in-Some.is) in
     let s = left _ g.met.K.Eq.laws _ _ _ _ _ c.self.invariant.tied w.row w.at_is c.in-Some.membership _ w.membership_is c.unlink-place.ensures.members c.unlink-place.ensures.lookups (c.clear_membership.ensures.changes _ w.at_is) in
@@ -61,16 +61,13 @@ returns-clause-step g c =
     let most = ap (λ (l : Listing). l.most) p.rest in
     let ordered = ap (λ (l : Listing). l.ordered) p.rest in
     let sum : length c.unlink-place.new.self.members + c.unlink-place.new.self.room ≡ length c.self.inside.access.members + c.self.inside.access.room = omega arith in
-    rw (s.access, order.written_is, order.cursor_is, order.timers_is, most, ordered, c.clear_membership.ensures.records, c.clear_membership.ensures.places, c.clear_membership.ensures.len, c.clear_membership.ensures.room, sum, w.number_is)
-    (ap (λ (k : Kept _ _ _). record k { access = without_member c.args.handle.number k.access; written = without_number c.args.handle.number k.written; cursor = cursor_past c.args.handle.number k.written k.cursor }) same)
-
-pub returns-clause-counted : goal.returns-clause-counted
-returns-clause-counted g c n =
-    let same = c.self.view_is ∙ c.clear_timer.ensures in
-    let w = member-row _ _ _ _ c.self.invariant.tied _ _ (ap (λ (k : Kept _ _ _). finite.get k.places c.args.handle.number) same ∙ c.requires.placed) _ (sym c.clear_membership.ensures.old ∙ c.in-Some.is) in
-    let s = left _ g.met.K.Eq.laws _ _ _ _ _ c.self.invariant.tied w.row w.at_is c.in-Some.membership _ w.membership_is c.unlink-place.ensures.members c.unlink-place.ensures.lookups (c.clear_membership.ensures.changes _ w.at_is) in
-    rw (s.access, w.number_is) (counted-without c.args.handle.number n (map (member_at c.self.inside.table.rows) c.self.inside.access.members)
-    ∙ ap (λ (k : Kept _ _ _). cond (n == c.args.handle.number) None (counted_of n k.access)) same)
+    record {
+      step = rw (s.access, order.written_is, order.cursor_is, order.timers_is, most, ordered, c.clear_membership.ensures.records, c.clear_membership.ensures.places, c.clear_membership.ensures.len, c.clear_membership.ensures.room, sum, w.number_is)
+          (ap (λ (k : Kept _ _ _). record k { access = without_member c.args.handle.number k.access; written = without_number c.args.handle.number k.written; cursor = cursor_past c.args.handle.number k.written k.cursor }) same);
+      counted = λ n. rw (s.access, w.number_is) (counted-without c.args.handle.number n (map (member_at c.self.inside.table.rows) c.self.inside.access.members) ∙ ap (λ (k : Kept _ _ _). cond (n == c.args.handle.number) None (counted_of n k.access)) same);
+      places = c.clear_membership.ensures.places ∙ ap (λ (k : Kept _ _ _). k.places) same;
+      records = c.clear_membership.ensures.records ∙ ap (λ (k : Kept _ _ _). k.records) same;
+    }
 
 pub overflow_sub-self : goal.overflow_sub-self
 overflow_sub-self g c =

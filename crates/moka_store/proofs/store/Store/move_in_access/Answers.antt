@@ -22,14 +22,13 @@ invariant_of-self g c =
     let fits = c.self.invariant.fits in
     record { tied = s.tied; written = c.self.invariant.written; timed = c.self.invariant.timed; keyed = c.self.invariant.keyed; fits = omega arith; few = (let few = c.self.invariant.few in omega arith); narrow = c.self.invariant.narrow; weighed = subst (λ members. IsWeighed members c.self.inside.weight) (sym s.access) (weighed-to_back w.row.number _ _ c.self.invariant.weighed) }
 
-pub returns-clause-step : goal.returns-clause-step
-returns-clause-step g c =
+pub returns : goal.returns
+returns g c =
     let w = member-row _ _ _ _ c.self.invariant.tied _ _ (rw (← c.self.view_is) at c.requires.placed) _ (sym c.membership.ensures.membership ∙ c.in-Some.is) in
     let s = moved _ _ _ _ _ _ c.self.invariant.tied w.row w.at_is c.in-Some.found w.membership_is (c.move_to_back.ensures.members _ w.node_is) c.move_to_back.ensures.lookups in
-    rw (s.access, c.move_to_back.ensures.len, c.move_to_back.ensures.room, w.number_is, ← c.self.view_is) refl
-
-pub returns-clause-counted : goal.returns-clause-counted
-returns-clause-counted g c n =
-    let w = member-row _ _ _ _ c.self.invariant.tied _ _ (rw (← c.self.view_is) at c.requires.placed) _ (sym c.membership.ensures.membership ∙ c.in-Some.is) in
-    let s = moved _ _ _ _ _ _ c.self.invariant.tied w.row w.at_is c.in-Some.found w.membership_is (c.move_to_back.ensures.members _ w.node_is) c.move_to_back.ensures.lookups in
-    rw (s.access, w.number_is, ← c.self.view_is) (counted-to_back c.args.handle.number n (map (member_at c.self.inside.table.rows) c.self.inside.access.members))
+    record {
+      step = rw (s.access, c.move_to_back.ensures.len, c.move_to_back.ensures.room, w.number_is, ← c.self.view_is) refl;
+      counted = λ n. rw (s.access, w.number_is, ← c.self.view_is) (counted-to_back c.args.handle.number n (map (member_at c.self.inside.table.rows) c.self.inside.access.members));
+      places = rw (← c.self.view_is) refl;
+      records = rw (← c.self.view_is) refl;
+    }

@@ -4,7 +4,8 @@ use Rattle.std.proofs.Common.{◌≡◌, ℕ, None, Some, ap, arith, refl, sym, 
 use Rattle.moka_store.proofs.Weights.{weighed-empty}
 use Rattle.moka_store.specs.Listing.{Listing}
 use Rattle.moka_store.specs.Timing.{Timing}
-use Rattle.moka_store.proofs.Orders.{written-empty, timed-empty, written-none, timers-none, cursor-nowhere}
+use Rattle.moka_store.proofs.Orders.{written-empty, timed-empty}
+use Rattle.moka_store.specs.StoreRows.{written_of, cursor_of, timers_of}
 use Rattle.moka_store.proofs.Steps.{tied-empty}
 use Rattle.moka_store.proofs.store.Store.new.Goals as goal
 
@@ -26,10 +27,10 @@ invariant_of-result g c =
     }
 
 pub returns-clause-empty : goal.returns-clause-empty
+unfolding written_of cursor_of timers_of
 returns-clause-empty g c =
-    let rows = c.new-5.ensures.rows in
     let nodes = ap (λ (l : Listing). l.nodes) c.in_ok-written.ensures in
     let cursor = ap (λ (l : Listing). l.cursor) c.in_ok-written.ensures in
     let ordered = ap (λ (l : Listing). l.ordered) c.in_ok-written.ensures in
     let timed = ap (λ (t : Timing). t.timed) c.in_ok-timers.ensures in
-    rw (c.new-5.ensures.records, c.new-5.ensures.places, written-none c.new-5.result.rows c.in_ok-written.written nodes, cursor-nowhere c.new-5.result.rows c.in_ok-written.written cursor, timers-none c.new-5.result.rows c.in_ok-timers.timers.timers rows, ordered, timed, c.in_ok-access.ensures) refl
+    rw (c.new-5.ensures.records, c.new-5.ensures.places, c.new-5.ensures.rows, nodes, cursor, ordered, timed, c.in_ok-access.ensures) refl

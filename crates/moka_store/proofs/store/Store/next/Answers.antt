@@ -22,25 +22,15 @@ returns-in_err-place-clause-next g c =
 pub member_at-requires : goal.member_at-requires
 member_at-requires g c = rw ((node-member _ _ _ _ c.self.invariant.tied _ _ c.in_ok-place.ensures.found).at_is) refl
 
-pub returns-clause-placed : goal.returns-clause-placed
-returns-clause-placed g c =
-    let n = node-member _ _ _ _ c.self.invariant.tied _ _ c.in_ok-place.ensures.found in
-    let same = c.member_at.ensures.member _ n.at_is in
-    let number : c.member_at.result.0.number ≡ n.row.number = ap (λ (m : Member). m.number) same in
-    rw (number, c.member_at.ensures.place, ← c.self.view_is) n.place_is
-
-pub returns-clause-next : goal.returns-clause-next
-returns-clause-next g c =
+pub returns : goal.returns
+returns g c =
     let w = member-row _ _ _ _ c.self.invariant.tied _ _ (rw (← c.self.view_is) at c.requires.placed) _ (sym c.membership.ensures.membership ∙ c.in-Some.is) in
     let n = node-member _ _ _ _ c.self.invariant.tied _ _ c.in_ok-place.ensures.found in
     let same = c.member_at.ensures.member _ n.at_is in
     let number : c.member_at.result.0.number ≡ n.row.number = ap (λ (m : Member). m.number) same in
     let after = after-row _ _ _ _ c.self.invariant.tied _ w.row w.at_is c.in-Some.membership w.membership_is in
-    ap Some (same ∙ sym n.member_is) ∙ ap (option_map (member_at c.self.inside.table.rows)) c.in_ok-place.ensures.next ∙ sym after ∙ rw (w.number_is, ← c.self.view_is) refl
-
-pub returns-clause-member : goal.returns-clause-member
-returns-clause-member g c =
-    let n = node-member _ _ _ _ c.self.invariant.tied _ _ c.in_ok-place.ensures.found in
-    let same = c.member_at.ensures.member _ n.at_is in
-    let number : c.member_at.result.0.number ≡ n.row.number = ap (λ (m : Member). m.number) same in
-    rw (number, ← c.self.view_is) n.counted_is
+    record {
+      placed = rw (number, c.member_at.ensures.place, ← c.self.view_is) n.place_is;
+      member = rw (number, ← c.self.view_is) n.counted_is;
+      next = ap Some (same ∙ sym n.member_is) ∙ ap (option_map (member_at c.self.inside.table.rows)) c.in_ok-place.ensures.next ∙ sym after ∙ rw (w.number_is, ← c.self.view_is) refl;
+    }

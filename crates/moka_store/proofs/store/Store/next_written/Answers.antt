@@ -21,14 +21,14 @@ returns-in_err-place-clause-next g c =
 pub handle_at-requires : goal.handle_at-requires
 handle_at-requires g c = rw ((written-place _ _ _ _ c.self.invariant.tied c.self.inside.written c.self.invariant.written _ _ c.in_ok-place.ensures.found).at_is) refl
 
-pub returns-clause-ordered : goal.returns-clause-ordered
-returns-clause-ordered g c = rw (← c.self.view_is) (written-handle _ _ _ _ c.self.invariant.tied _ c.self.inside.timers _ _ _ c.self.inside.written c.self.invariant.written _ _ c.in_ok-place.ensures.found c.handle_at.result c.handle_at.ensures.place c.handle_at.ensures.number)
-
-pub returns-clause-next : goal.returns-clause-next
-returns-clause-next g c =
+pub returns : goal.returns
+returns g c =
     let w = placed _ _ _ _ c.self.invariant.tied _ _ (rw (← c.self.view_is) at c.requires.placed) in
     let is = sym (c.written_slot-slot.ensures ∙ ap (option_and_then written_in) w.at_is) in
     let n = written-place _ _ _ _ c.self.invariant.tied c.self.inside.written c.self.invariant.written _ _ c.in_ok-place.ensures.found in
-    ap Some (c.handle_at.ensures.number _ n.at_is ∙ sym n.number_is)
-    ∙ number-next c.self.inside.table.rows c.self.inside.written.nodes c.self.invariant.written.listed c.self.invariant.tied.numbered _ w.row w.at_is _ is _ c.in_ok-place.ensures.next c.in_ok-place.ensures.absent
-    ∙ rw (w.number_is, ← c.self.view_is) refl
+    record {
+      ordered = rw (← c.self.view_is) (written-handle _ _ _ _ c.self.invariant.tied _ c.self.inside.timers _ _ _ c.self.inside.written c.self.invariant.written _ _ c.in_ok-place.ensures.found c.handle_at.result c.handle_at.ensures.place c.handle_at.ensures.number);
+      next = ap Some (c.handle_at.ensures.number _ n.at_is ∙ sym n.number_is)
+          ∙ number-next c.self.inside.table.rows c.self.inside.written.nodes c.self.invariant.written.listed c.self.invariant.tied.numbered _ w.row w.at_is _ is _ c.in_ok-place.ensures.next c.in_ok-place.ensures.absent
+          ∙ rw (w.number_is, ← c.self.view_is) refl;
+    }

@@ -4,14 +4,14 @@ use Rattle.moka_store.proofs.TableCalls.{placed_row}
 use Rattle.moka_store.proofs.Places.{record-placed}
 use Rattle.moka_store.proofs.store.Store.place_count.Goals as goal
 
-pub returns-clause-places : goal.returns-clause-places
-returns-clause-places g c =
+pub returns : goal.returns
+returns g c =
     let rows = c.self.inside.table.rows in
-    rw (← c.self.view_is) (λ n place there.
-    (let w = placed_row rows c.self.invariant.tied.numbered place n there in
-    let within = row_at-within rows place w.0 w.1 in
-    let most = c.capacity.ensures.places in
-    omega arith))
-
-pub returns-clause-rowed : goal.returns-clause-rowed
-returns-clause-rowed g c = rw (← c.self.view_is) (record-placed g.K.PartialEq.eq c.self.inside.table.rows _ _ c.self.invariant.tied)
+    record {
+      places = rw (← c.self.view_is) (λ n place there.
+          (let w = placed_row rows c.self.invariant.tied.numbered place n there in
+          let within = row_at-within rows place w.0 w.1 in
+          let most = c.capacity.ensures.places in
+          omega arith));
+      rowed = rw (← c.self.view_is) (record-placed g.K.PartialEq.eq rows _ _ c.self.invariant.tied);
+    }

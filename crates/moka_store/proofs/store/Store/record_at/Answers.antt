@@ -7,13 +7,13 @@ use Rattle.moka_parts.specs.declared.records.Record.{Record}
 use Rattle.moka_store.proofs.Places.{stored-own}
 use Rattle.moka_store.proofs.store.Store.record_at.Goals as goal
 
-pub returns-clause-found : goal.returns-clause-found
-returns-clause-found g c =
+pub returns : goal.returns
+returns g c =
     let rows = c.self.inside.table.rows in
     let tied = c.self.invariant.tied in
-    rw (← c.self.view_is) (λ n there.
-    (let w = placed_row rows tied.numbered c.args.place n there in
-    c.record.ensures ∙ ap (option_and_then (λ (row : Row (Record g.row.K.Denot g.row.V.Denot)). row.stored)) w.1 ∙ sym (get-records rows tied.numbered c.args.place w.0 w.1) ∙ ap (finite.get (records_of rows)) w.2))
-
-pub returns-clause-stored : goal.returns-clause-stored
-returns-clause-stored g c = rw (← c.self.view_is) (stored-own g.K.PartialEq.eq c.self.inside.table.rows _ _ c.self.invariant.tied c.args.place c.record.result c.record.ensures)
+    record {
+      found = rw (← c.self.view_is) (λ n there.
+          (let w = placed_row rows tied.numbered c.args.place n there in
+          c.record.ensures ∙ ap (option_and_then (λ (row : Row (Record g.row.K.Denot g.row.V.Denot)). row.stored)) w.1 ∙ sym (get-records rows tied.numbered c.args.place w.0 w.1) ∙ ap (finite.get (records_of rows)) w.2));
+      stored = rw (← c.self.view_is) (stored-own g.K.PartialEq.eq rows _ _ tied c.args.place c.record.result c.record.ensures);
+    }

@@ -39,8 +39,8 @@ invariant_of-self g c =
     let fits = c.self.invariant.fits in
     record { tied = s.tied; written = order.written; timed = stay.timed; keyed = c.self.invariant.keyed ∙ sym (ap finite.len c.set_counted.ensures.records); fits = (let most = ap (λ (l : Listing). l.most) p.rest in omega arith); few = (let few = c.self.invariant.few in omega arith); narrow = subst AreNarrow (sym c.set_counted.ensures.places) c.self.invariant.narrow; weighed = subst (λ members. IsWeighed members (c.self.inside.weight - c.in-Some.before.counted + c.args.weight)) (sym s.access) (weighed-recounted w.row.number _ c.args.weight _ _ c.self.invariant.weighed (ap (λ n. counted_of n (map (member_at c.self.inside.table.rows) c.self.inside.access.members)) w.number_is ∙ w.counted_is) c.ranges.weight.fits) }
 
-pub returns-clause-step : goal.returns-clause-step
-returns-clause-step g c =
+pub returns : goal.returns
+returns g c =
     let w = member-row _ _ _ _ c.self.invariant.tied _ _ (rw (← c.self.view_is) at c.requires.placed) _ (sym c.membership.ensures.membership ∙ c.in-Some.is) in
     let s = recounted _ g.met.K.Eq.laws _ _ _ _ _ c.self.invariant.tied w.row w.at_is c.in-Some.before c.args.weight _ w.membership_is (c.move_to_back.ensures.members _ w.node_is) c.move_to_back.ensures.lookups (c.set_counted.ensures.changes _ _ w.at_is w.membership_is) in
     let p = c.move_to_back-2.ensures in
@@ -50,13 +50,12 @@ returns-clause-step g c =
     let order = moves c.set_counted.new.self.rows c.self.inside.written c.move_to_back-2.new.self stay.written s.tied.numbered _ (record w.row { membership = Some (record c.in-Some.before { counted = c.args.weight }) }) changes.changed c.in-Some.before.written refl p.nodes p.lookups p.rest p.absent p.cursor in
     let most = ap (λ (l : Listing). l.most) p.rest in
     let ordered = ap (λ (l : Listing). l.ordered) p.rest in
-    rw (s.access, order.written_is, order.cursor_is, stay.written_is, stay.cursor_is, stay.timers_is, most, ordered, c.set_counted.ensures.records, c.set_counted.ensures.places, c.set_counted.ensures.len, c.set_counted.ensures.room, c.move_to_back.ensures.len, c.move_to_back.ensures.room, w.number_is, ← c.self.view_is) refl
-
-pub returns-clause-counted : goal.returns-clause-counted
-returns-clause-counted g c n =
-    let w = member-row _ _ _ _ c.self.invariant.tied _ _ (rw (← c.self.view_is) at c.requires.placed) _ (sym c.membership.ensures.membership ∙ c.in-Some.is) in
-    let s = recounted _ g.met.K.Eq.laws _ _ _ _ _ c.self.invariant.tied w.row w.at_is c.in-Some.before c.args.weight _ w.membership_is (c.move_to_back.ensures.members _ w.node_is) c.move_to_back.ensures.lookups (c.set_counted.ensures.changes _ _ w.at_is w.membership_is) in
-    rw (s.access, w.number_is, ← c.self.view_is) (counted-recounted c.args.handle.number n c.args.weight (map (member_at c.self.inside.table.rows) c.self.inside.access.members))
+    record {
+      step = rw (s.access, order.written_is, order.cursor_is, stay.written_is, stay.cursor_is, stay.timers_is, most, ordered, c.set_counted.ensures.records, c.set_counted.ensures.places, c.set_counted.ensures.len, c.set_counted.ensures.room, c.move_to_back.ensures.len, c.move_to_back.ensures.room, w.number_is, ← c.self.view_is) refl;
+      counted = λ n. rw (s.access, w.number_is, ← c.self.view_is) (counted-recounted c.args.handle.number n c.args.weight (map (member_at c.self.inside.table.rows) c.self.inside.access.members));
+      places = rw (← c.self.view_is) c.set_counted.ensures.places;
+      records = rw (← c.self.view_is) c.set_counted.ensures.records;
+    }
 
 pub overflow_sub-self : goal.overflow_sub-self
 overflow_sub-self g c =

@@ -11,17 +11,13 @@ set_applied-requires g c =
 pub invariant_of-self : goal.invariant_of-self
 invariant_of-self g c = (changed _ g.met.K.Eq.laws _ _ _ _ c.self.inside.written c.self.inside.timers _ _ _ _ c.self.invariant c.args.handle (rw (← c.self.view_is) at c.requires) (λ r. record r { applied = c.args.generation }) (λ _. refl) (λ _. refl) c.set_applied.ensures).store
 
-pub returns-clause-step : goal.returns-clause-step
-returns-clause-step g c = rw (← c.self.view_is) (changed _ g.met.K.Eq.laws _ _ _ _ c.self.inside.written c.self.inside.timers _ _ _ _ c.self.invariant c.args.handle (rw (← c.self.view_is) at c.requires) (λ r. record r { applied = c.args.generation }) (λ _. refl) (λ _. refl) c.set_applied.ensures).step
-
-pub returns-clause-handle : goal.returns-clause-handle
-returns-clause-handle g c =
+pub returns : goal.returns
+returns g c =
     let h = rw (← c.self.view_is) at c.requires in
     let s = changed _ g.met.K.Eq.laws _ _ _ _ c.self.inside.written c.self.inside.timers _ _ _ _ c.self.invariant c.args.handle h (λ r. record r { applied = c.args.generation }) (λ _. refl) (λ _. refl) c.set_applied.ensures in
-    record { placed = rw (s.places) h.placed; stored = s.stored }
-
-pub returns-clause-places : goal.returns-clause-places
-returns-clause-places g c = rw (← c.self.view_is) (changed _ g.met.K.Eq.laws _ _ _ _ c.self.inside.written c.self.inside.timers _ _ _ _ c.self.invariant c.args.handle (rw (← c.self.view_is) at c.requires) (λ r. record r { applied = c.args.generation }) (λ _. refl) (λ _. refl) c.set_applied.ensures).places
-
-pub returns-clause-access : goal.returns-clause-access
-returns-clause-access g c = rw (← c.self.view_is) (changed _ g.met.K.Eq.laws _ _ _ _ c.self.inside.written c.self.inside.timers _ _ _ _ c.self.invariant c.args.handle (rw (← c.self.view_is) at c.requires) (λ r. record r { applied = c.args.generation }) (λ _. refl) (λ _. refl) c.set_applied.ensures).access
+    record {
+      step = rw (← c.self.view_is) s.step;
+      handle = record { placed = rw s.places h.placed; stored = s.stored };
+      places = rw (← c.self.view_is) s.places;
+      access = rw (← c.self.view_is) s.access;
+    }

@@ -17,26 +17,19 @@ invariant_of-self g c =
 pub index-requires : goal.index-requires
 index-requires g c = omega (arith, row_within c.self.inside.rows c.self.inside.cold.items _ _ c.self.invariant c.args.place (rw (← c.self.view_is) at c.requires))
 
-pub returns-clause-old : goal.returns-clause-old
-returns-clause-old g c =
-    let within = row_within c.self.inside.rows c.self.inside.cold.items _ _ c.self.invariant c.args.place (rw (← c.self.view_is) at c.requires) in
+pub returns : goal.returns
+returns g c =
+    let there = rw (← c.self.view_is) at c.requires in
+    let within = row_within c.self.inside.rows c.self.inside.cold.items _ _ c.self.invariant c.args.place there in
     let own = counted-read c.self.inside.cold.items c.args.place c.index.result.now within c.index.ensures in
+    let s = whole-uncounted _ _ _ _ c.self.invariant.numbered there c.replace_membership-old.ensures.changes in
     let old = c.counted_as.ensures ∙ ap (option_map (counted_as c.index.result.now.counted)) c.replace_membership-old.ensures.old ∙ ap (λ n. option_map (counted_as n) (membership_at c.self.inside.rows.rows c.args.place)) own in
-    rw (← c.self.view_is) (old ∙ sym (membership-whole c.self.inside.rows.rows c.self.inside.cold.items c.args.place))
-
-pub returns-clause-changes : goal.returns-clause-changes
-returns-clause-changes g c = λ row at.
-    let there = rw (← c.self.view_is) at at in
-    rw (← c.self.view_is) (whole-step c.self.inside.rows.rows c.self.inside.cold.items c.args.place c.replace_membership-old.new.self.rows (λ row. record row { membership = None }) (λ row. record row { membership = None }) (λ cold row. refl) c.replace_membership-old.ensures.changes row there)
-
-pub returns-clause-records : goal.returns-clause-records
-returns-clause-records g c = rw (← c.self.view_is) (whole-uncounted _ _ _ _ c.self.invariant.numbered (rw (← c.self.view_is) at c.requires) c.replace_membership-old.ensures.changes).records_is
-
-pub returns-clause-counted : goal.returns-clause-counted
-returns-clause-counted g c = rw (← c.self.view_is) (whole-uncounted _ _ _ _ c.self.invariant.numbered (rw (← c.self.view_is) at c.requires) c.replace_membership-old.ensures.changes).counted_is
-
-pub returns-clause-places : goal.returns-clause-places
-returns-clause-places g c = rw (← c.self.view_is) (whole-uncounted _ _ _ _ c.self.invariant.numbered (rw (← c.self.view_is) at c.requires) c.replace_membership-old.ensures.changes).places_is
-
-pub returns-clause-len : goal.returns-clause-len
-returns-clause-len g c = rw (← c.self.view_is) (count-whole _ _ ∙ c.replace_membership-old.ensures.len ∙ sym (count-whole c.self.inside.rows.rows c.self.inside.cold.items))
+    record {
+      old = rw (← c.self.view_is) (old ∙ sym (membership-whole c.self.inside.rows.rows c.self.inside.cold.items c.args.place));
+      changes = rw (← c.self.view_is) (whole-step c.self.inside.rows.rows c.self.inside.cold.items c.args.place c.replace_membership-old.new.self.rows (λ row. record row { membership = None }) (λ row. record row { membership = None }) (λ cold row. refl) c.replace_membership-old.ensures.changes);
+      records = rw (← c.self.view_is) s.records_is;
+      counted = rw (← c.self.view_is) s.counted_is;
+      places = rw (← c.self.view_is) s.places_is;
+      len = rw (← c.self.view_is) (count-whole _ _ ∙ c.replace_membership-old.ensures.len ∙ sym (count-whole c.self.inside.rows.rows c.self.inside.cold.items));
+      room = rw (← c.self.view_is) (omega (arith, c.replace_membership-old.ensures.len));
+    }

@@ -8,20 +8,15 @@ returns-in_err-own-clause-found g c = λ h.
     let none = found-none c.args.self.now.rows c.args.place c.args.number (sym c.in_err-own.ensures.stored) in
     rw c.from_residual.ensures (sym none ∙ find_at-found c.args.self.now.rows c.in_err-own.ensures.apart c.args.place c.args.number h)
 
-pub returns-then-own-number-clause-found : goal.returns-then-own-number-clause-found
-returns-then-own-number-clause-found g c = λ h.
+pub returns-then-own-number : goal.returns-then-own-number
+returns-then-own-number g c =
     let found = found-at c.args.self.now.rows c.args.place c.args.number c.in_ok-own.own c.in_ok-own.found c.in_ok-own.ensures.number c.in_ok-own.ensures.stored (omega arith) in
-    sym found ∙ find_at-found c.args.self.now.rows c.in_ok-own.ensures.apart c.args.place c.args.number h
-
-pub returns-then-own-number-clause-elsewhere : goal.returns-then-own-number-clause-elsewhere
-returns-then-own-number-clause-elsewhere g c = λ h.
-    let found = found-at c.args.self.now.rows c.args.place c.args.number c.in_ok-own.own c.in_ok-own.found c.in_ok-own.ensures.number c.in_ok-own.ensures.stored (omega arith) in
-    sym found ∙ find_at-elsewhere c.args.self.now.rows c.in_ok-own.ensures.apart c.args.place c.args.number h
-
-pub returns-then-own-number-clause-placed : goal.returns-then-own-number-clause-placed
-returns-then-own-number-clause-placed g c = λ _.
-    let found = found-at c.args.self.now.rows c.args.place c.args.number c.in_ok-own.own c.in_ok-own.found c.in_ok-own.ensures.number c.in_ok-own.ensures.stored (omega arith) in
-    find_at-placed c.args.self.now.rows c.in_ok-own.ensures.apart c.args.place c.args.number (ap is_some found)
+    record {
+      value = sym found;
+      found = λ h. sym found ∙ find_at-found c.args.self.now.rows c.in_ok-own.ensures.apart c.args.place c.args.number h;
+      elsewhere = λ h. sym found ∙ find_at-elsewhere c.args.self.now.rows c.in_ok-own.ensures.apart c.args.place c.args.number h;
+      placed = λ _. find_at-placed c.args.self.now.rows c.in_ok-own.ensures.apart c.args.place c.args.number (ap is_some found);
+    }
 
 pub returns-else-own-number-clause-found : goal.returns-else-own-number-clause-found
 returns-else-own-number-clause-found g c = λ h.

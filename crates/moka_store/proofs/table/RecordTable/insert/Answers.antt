@@ -31,41 +31,29 @@ invariant_of-self-else-place-len g c =
       numbered = s.numbered;
     }
 
-pub returns-then-place-len-clause-vacant : goal.returns-then-place-len-clause-vacant
-returns-then-place-len-clause-vacant g c = rw (← c.self.view_is) (none_whole _ _ _ c.insert-place.ensures.vacant)
+pub returns-then-place-len : goal.returns-then-place-len
+returns-then-place-len g c =
+    let s = whole-inserted_last c.self.inside.rows c.self.inside.cold.items _ _ c.self.invariant c.insert-place.new.self.rows c.insert-place.result c.args.stored c.split-front.result.0 c.split-front.result.1 c.split-front.ensures c.insert-place.ensures.changes c.insert-place.ensures.vacant (rw (← c.self.view_is) at c.requires.fresh) (omega arith) in
+    record {
+      vacant = rw (← c.self.view_is) (none_whole _ _ _ c.insert-place.ensures.vacant);
+      changes = rw (c.push_reserved.ensures.items, ← c.self.view_is) (inserted-last c.self.inside.rows.rows c.insert-place.new.self.rows c.self.inside.cold.items c.insert-place.result c.args.stored c.split-front.result.0 c.split-front.result.1 c.split-front.ensures c.insert-place.ensures.changes (omega arith));
+      records = rw (c.push_reserved.ensures.items, ← c.self.view_is) s.records_is;
+      counted = rw (c.push_reserved.ensures.items, ← c.self.view_is) s.counted_is;
+      places = rw (c.push_reserved.ensures.items, ← c.self.view_is) s.places_is;
+      len = rw (← c.self.view_is) (count-whole _ _ ∙ c.insert-place.ensures.len ∙ ap (λ n. n + 1) (sym (count-whole c.self.inside.rows.rows c.self.inside.cold.items)));
+      room = (let room = rw (← c.self.view_is) at c.requires.room in rw (← c.self.view_is) (omega (arith, room, c.insert-place.ensures.len)));
+    }
 
-pub returns-then-place-len-clause-changes : goal.returns-then-place-len-clause-changes
-returns-then-place-len-clause-changes g c = rw (c.push_reserved.ensures.items, ← c.self.view_is) (inserted-last c.self.inside.rows.rows c.insert-place.new.self.rows c.self.inside.cold.items c.insert-place.result c.args.stored c.split-front.result.0 c.split-front.result.1 c.split-front.ensures c.insert-place.ensures.changes (omega arith))
-
-pub returns-then-place-len-clause-records : goal.returns-then-place-len-clause-records
-returns-then-place-len-clause-records g c = rw (c.push_reserved.ensures.items, ← c.self.view_is) (whole-inserted_last c.self.inside.rows c.self.inside.cold.items _ _ c.self.invariant c.insert-place.new.self.rows c.insert-place.result c.args.stored c.split-front.result.0 c.split-front.result.1 c.split-front.ensures c.insert-place.ensures.changes c.insert-place.ensures.vacant (rw (← c.self.view_is) at c.requires.fresh) (omega arith)).records_is
-
-pub returns-then-place-len-clause-counted : goal.returns-then-place-len-clause-counted
-returns-then-place-len-clause-counted g c = rw (c.push_reserved.ensures.items, ← c.self.view_is) (whole-inserted_last c.self.inside.rows c.self.inside.cold.items _ _ c.self.invariant c.insert-place.new.self.rows c.insert-place.result c.args.stored c.split-front.result.0 c.split-front.result.1 c.split-front.ensures c.insert-place.ensures.changes c.insert-place.ensures.vacant (rw (← c.self.view_is) at c.requires.fresh) (omega arith)).counted_is
-
-pub returns-then-place-len-clause-places : goal.returns-then-place-len-clause-places
-returns-then-place-len-clause-places g c = rw (c.push_reserved.ensures.items, ← c.self.view_is) (whole-inserted_last c.self.inside.rows c.self.inside.cold.items _ _ c.self.invariant c.insert-place.new.self.rows c.insert-place.result c.args.stored c.split-front.result.0 c.split-front.result.1 c.split-front.ensures c.insert-place.ensures.changes c.insert-place.ensures.vacant (rw (← c.self.view_is) at c.requires.fresh) (omega arith)).places_is
-
-pub returns-then-place-len-clause-len : goal.returns-then-place-len-clause-len
-returns-then-place-len-clause-len g c = rw (← c.self.view_is) (count-whole _ _ ∙ c.insert-place.ensures.len ∙ ap (λ n. n + 1) (sym (count-whole c.self.inside.rows.rows c.self.inside.cold.items)))
-
-pub returns-else-place-len-clause-vacant : goal.returns-else-place-len-clause-vacant
-returns-else-place-len-clause-vacant g c = rw (← c.self.view_is) (none_whole _ _ _ c.insert-place.ensures.vacant)
-
-pub returns-else-place-len-clause-changes : goal.returns-else-place-len-clause-changes
-returns-else-place-len-clause-changes g c =
+pub returns-else-place-len : goal.returns-else-place-len
+returns-else-place-len g c =
     let within : c.insert-place.result < length c.self.inside.cold.items = (let f = c.insert-place.ensures.filled (λ e. omega (arith, c.self.invariant.beside)) in omega (arith, f.1, c.self.invariant.beside)) in
-    let step = inserted-within c.self.inside.rows.rows c.insert-place.new.self.rows c.self.inside.cold.items c.insert-place.result c.args.stored c.split-front.result.0 c.split-front.result.1 c.split-front.ensures c.insert-place.ensures.changes within in
-    rw (← c.self.view_is) step
-
-pub returns-else-place-len-clause-records : goal.returns-else-place-len-clause-records
-returns-else-place-len-clause-records g c = rw (← c.self.view_is) (whole-inserted_within c.self.inside.rows c.self.inside.cold.items _ _ c.self.invariant c.insert-place.new.self.rows c.insert-place.result c.args.stored c.split-front.result.0 c.split-front.result.1 c.split-front.ensures c.insert-place.ensures.changes c.insert-place.ensures.vacant (rw (← c.self.view_is) at c.requires.fresh) (omega (arith, (c.insert-place.ensures.filled (λ e. omega (arith, c.self.invariant.beside))).1, c.self.invariant.beside))).records_is
-
-pub returns-else-place-len-clause-counted : goal.returns-else-place-len-clause-counted
-returns-else-place-len-clause-counted g c = rw (← c.self.view_is) (whole-inserted_within c.self.inside.rows c.self.inside.cold.items _ _ c.self.invariant c.insert-place.new.self.rows c.insert-place.result c.args.stored c.split-front.result.0 c.split-front.result.1 c.split-front.ensures c.insert-place.ensures.changes c.insert-place.ensures.vacant (rw (← c.self.view_is) at c.requires.fresh) (omega (arith, (c.insert-place.ensures.filled (λ e. omega (arith, c.self.invariant.beside))).1, c.self.invariant.beside))).counted_is
-
-pub returns-else-place-len-clause-places : goal.returns-else-place-len-clause-places
-returns-else-place-len-clause-places g c = rw (← c.self.view_is) (whole-inserted_within c.self.inside.rows c.self.inside.cold.items _ _ c.self.invariant c.insert-place.new.self.rows c.insert-place.result c.args.stored c.split-front.result.0 c.split-front.result.1 c.split-front.ensures c.insert-place.ensures.changes c.insert-place.ensures.vacant (rw (← c.self.view_is) at c.requires.fresh) (omega (arith, (c.insert-place.ensures.filled (λ e. omega (arith, c.self.invariant.beside))).1, c.self.invariant.beside))).places_is
-
-pub returns-else-place-len-clause-len : goal.returns-else-place-len-clause-len
-returns-else-place-len-clause-len g c = rw (← c.self.view_is) (count-whole _ _ ∙ c.insert-place.ensures.len ∙ ap (λ n. n + 1) (sym (count-whole c.self.inside.rows.rows c.self.inside.cold.items)))
+    let s = whole-inserted_within c.self.inside.rows c.self.inside.cold.items _ _ c.self.invariant c.insert-place.new.self.rows c.insert-place.result c.args.stored c.split-front.result.0 c.split-front.result.1 c.split-front.ensures c.insert-place.ensures.changes c.insert-place.ensures.vacant (rw (← c.self.view_is) at c.requires.fresh) within in
+    record {
+      vacant = rw (← c.self.view_is) (none_whole _ _ _ c.insert-place.ensures.vacant);
+      changes = rw (← c.self.view_is) (inserted-within c.self.inside.rows.rows c.insert-place.new.self.rows c.self.inside.cold.items c.insert-place.result c.args.stored c.split-front.result.0 c.split-front.result.1 c.split-front.ensures c.insert-place.ensures.changes within);
+      records = rw (← c.self.view_is) s.records_is;
+      counted = rw (← c.self.view_is) s.counted_is;
+      places = rw (← c.self.view_is) s.places_is;
+      len = rw (← c.self.view_is) (count-whole _ _ ∙ c.insert-place.ensures.len ∙ ap (λ n. n + 1) (sym (count-whole c.self.inside.rows.rows c.self.inside.cold.items)));
+      room = (let room = rw (← c.self.view_is) at c.requires.room in rw (← c.self.view_is) (omega (arith, room, c.insert-place.ensures.len)));
+    }

@@ -12,21 +12,17 @@ invariant_of-self g c =
     let s = whole-recounted c.self.inside.rows c.self.inside.cold.items _ _ c.args.place c.self.invariant c.index_mut.result.now c.index_mut.ensures.value c.args.weight (rw (← c.self.view_is) at c.requires) in
     beside_after _ _ _ _ _ _ c.self.invariant refl (length-set _ _ _) refl s.numbered
 
-pub returns-clause-changes : goal.returns-clause-changes
-returns-clause-changes g c = λ row m at is.
-    let within = member_within c.self.inside.rows c.self.inside.cold.items _ _ c.self.invariant c.args.place (rw (← c.self.view_is) at c.requires) in
+pub returns : goal.returns
+returns g c =
+    let there = rw (← c.self.view_is) at c.requires in
+    let within = member_within c.self.inside.rows c.self.inside.cold.items _ _ c.self.invariant c.args.place there in
     let own = cold-read c.self.inside.cold.items c.args.place c.index_mut.result.now within c.index_mut.ensures.value in
-    let there = rw (← c.self.view_is) at at in
-    rw (← c.self.view_is) (whole-recounts c.self.inside.rows.rows c.self.inside.cold.items c.args.place c.index_mut.result.now own within c.args.weight row m there is)
-
-pub returns-clause-records : goal.returns-clause-records
-returns-clause-records g c = rw (← c.self.view_is) (whole-recounted c.self.inside.rows c.self.inside.cold.items _ _ c.args.place c.self.invariant c.index_mut.result.now c.index_mut.ensures.value c.args.weight (rw (← c.self.view_is) at c.requires)).records_is
-
-pub returns-clause-counted : goal.returns-clause-counted
-returns-clause-counted g c = rw (← c.self.view_is) (whole-recounted c.self.inside.rows c.self.inside.cold.items _ _ c.args.place c.self.invariant c.index_mut.result.now c.index_mut.ensures.value c.args.weight (rw (← c.self.view_is) at c.requires)).counted_is
-
-pub returns-clause-places : goal.returns-clause-places
-returns-clause-places g c = rw (← c.self.view_is) (whole-recounted c.self.inside.rows c.self.inside.cold.items _ _ c.args.place c.self.invariant c.index_mut.result.now c.index_mut.ensures.value c.args.weight (rw (← c.self.view_is) at c.requires)).places_is
-
-pub returns-clause-len : goal.returns-clause-len
-returns-clause-len g c = rw (← c.self.view_is) (count-whole _ _ ∙ sym (count-whole c.self.inside.rows.rows c.self.inside.cold.items))
+    let s = whole-recounted c.self.inside.rows c.self.inside.cold.items _ _ c.args.place c.self.invariant c.index_mut.result.now c.index_mut.ensures.value c.args.weight there in
+    record {
+      changes = rw (← c.self.view_is) (whole-recounts c.self.inside.rows.rows c.self.inside.cold.items c.args.place c.index_mut.result.now own within c.args.weight);
+      records = rw (← c.self.view_is) s.records_is;
+      counted = rw (← c.self.view_is) s.counted_is;
+      places = rw (← c.self.view_is) s.places_is;
+      len = rw (← c.self.view_is) (count-whole _ _ ∙ sym (count-whole c.self.inside.rows.rows c.self.inside.cold.items));
+      room = rw (← c.self.view_is) refl;
+    }

@@ -11,22 +11,16 @@ invariant_of-self g c =
     let s = whole-timed _ _ _ _ c.self.invariant.numbered c.args.timer (rw (← c.self.view_is) at c.requires.row) c.replace_timer.ensures.changes in
     beside_after _ _ _ _ _ _ c.self.invariant c.replace_timer.ensures.length refl (omega (arith, c.replace_timer.ensures.len, c.replace_timer.ensures.room)) s.numbered
 
-pub returns-clause-old : goal.returns-clause-old
-returns-clause-old g c = rw (← c.self.view_is) (c.replace_timer.ensures.old ∙ sym (keeps _ _ _ (λ row. row.timer) (λ row. row.timer) (λ cold row. refl)))
-
-pub returns-clause-changes : goal.returns-clause-changes
-returns-clause-changes g c = λ row at.
-    let there = rw (← c.self.view_is) at at in
-    rw (← c.self.view_is) (whole-step c.self.inside.rows.rows c.self.inside.cold.items c.args.place c.replace_timer.new.self.rows (λ row. record row { timer = c.args.timer }) (λ row. record row { timer = c.args.timer }) (λ cold row. refl) c.replace_timer.ensures.changes row there)
-
-pub returns-clause-records : goal.returns-clause-records
-returns-clause-records g c = rw (← c.self.view_is) (whole-timed _ _ _ _ c.self.invariant.numbered c.args.timer (rw (← c.self.view_is) at c.requires.row) c.replace_timer.ensures.changes).records_is
-
-pub returns-clause-counted : goal.returns-clause-counted
-returns-clause-counted g c = rw (← c.self.view_is) (whole-timed _ _ _ _ c.self.invariant.numbered c.args.timer (rw (← c.self.view_is) at c.requires.row) c.replace_timer.ensures.changes).counted_is
-
-pub returns-clause-places : goal.returns-clause-places
-returns-clause-places g c = rw (← c.self.view_is) (whole-timed _ _ _ _ c.self.invariant.numbered c.args.timer (rw (← c.self.view_is) at c.requires.row) c.replace_timer.ensures.changes).places_is
-
-pub returns-clause-len : goal.returns-clause-len
-returns-clause-len g c = rw (← c.self.view_is) (count-whole _ _ ∙ c.replace_timer.ensures.len ∙ sym (count-whole c.self.inside.rows.rows c.self.inside.cold.items))
+pub returns : goal.returns
+returns g c =
+    let s = whole-timed _ _ _ _ c.self.invariant.numbered c.args.timer (rw (← c.self.view_is) at c.requires.row) c.replace_timer.ensures.changes in
+    record {
+      old = rw (← c.self.view_is) (c.replace_timer.ensures.old ∙ sym (keeps _ _ _ (λ row. row.timer) (λ row. row.timer) (λ cold row. refl)));
+      slot = c.replace_timer.ensures.slot;
+      changes = rw (← c.self.view_is) (whole-step c.self.inside.rows.rows c.self.inside.cold.items c.args.place c.replace_timer.new.self.rows (λ row. record row { timer = c.args.timer }) (λ row. record row { timer = c.args.timer }) (λ cold row. refl) c.replace_timer.ensures.changes);
+      records = rw (← c.self.view_is) s.records_is;
+      counted = rw (← c.self.view_is) s.counted_is;
+      places = rw (← c.self.view_is) s.places_is;
+      len = rw (← c.self.view_is) (count-whole _ _ ∙ c.replace_timer.ensures.len ∙ sym (count-whole c.self.inside.rows.rows c.self.inside.cold.items));
+      room = rw (← c.self.view_is) (omega (arith, c.replace_timer.ensures.len));
+    }

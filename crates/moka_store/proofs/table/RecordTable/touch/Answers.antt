@@ -10,14 +10,14 @@ use Rattle.moka_store.proofs.ColdRows.{same-table, keeps-stored, stored_within, 
 use Rattle.moka_store.proofs.TableCalls.{stored_row}
 use Rattle.moka_store.proofs.table.RecordTable.touch.Goals as goal
 
-pub touch-requires-clause-stored : goal.touch-requires-clause-stored
-touch-requires-clause-stored g c = keeps-stored _ _ _ (rw (← c.self.view_is) at c.requires.stored)
-
-pub touch-requires-clause-kept : goal.touch-requires-clause-kept
-touch-requires-clause-kept g c = λ kept f is.
-    let whole = stored-whole c.self.inside.rows.rows c.self.inside.cold.items c.args.place ∙ ap (option_map (λ f. joined (number_at c.self.inside.rows.rows c.args.place) f (cold_at c.self.inside.cold.items c.args.place))) is in
-    let same = rw (← c.self.view_is) at c.requires.kept kept _ whole in
-    c.is_some.ensures ∙ ap is_some same ∙ expiring-is _ _
+pub touch-requires : goal.touch-requires
+touch-requires g c = record {
+  stored = keeps-stored _ _ _ (rw (← c.self.view_is) at c.requires.stored);
+  kept = λ kept f is.
+      let whole = stored-whole c.self.inside.rows.rows c.self.inside.cold.items c.args.place ∙ ap (option_map (λ f. joined (number_at c.self.inside.rows.rows c.args.place) f (cold_at c.self.inside.cold.items c.args.place))) is in
+      let same = rw (← c.self.view_is) at c.requires.kept kept _ whole in
+      c.is_some.ensures ∙ ap is_some same ∙ expiring-is _ _;
+}
 
 pub index_mut-requires : goal.index_mut-requires
 index_mut-requires g c = omega (arith, stored_within c.self.inside.rows c.self.inside.cold.items _ _ c.args.place c.self.invariant (keeps-stored _ _ _ (rw (← c.self.view_is) at c.requires.stored)))

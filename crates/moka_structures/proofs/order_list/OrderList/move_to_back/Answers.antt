@@ -1,56 +1,41 @@
-use Rattle.std.proofs.Common.{◌≡◌, nat_eq, [], ◌∷◌, ◌++◌, arith, ap, ◌∙◌}
-use Rattle.moka_structures.proofs.Orders.{befores-any, behinds-any, near, last-any, moved, number-of, distinct-members, length-members}
+use Rattle.std.proofs.Common.{nat_eq, arith, ap, sym, ◌∙◌}
+use Rattle.std.specs.Map.{lookup}
+use Rattle.moka_structures.proofs.Orders.{near, value-of, before-any, behind-any, last-detached, moved, distinct-members, length-members}
 use Rattle.moka_structures.proofs.Lookups.{lookup-moved}
-use Rattle.moka_structures.specs.Links.{members_of, values}
-use Rattle.std.specs.Map.{lookup, remove_entry}
 use Rattle.moka_structures.proofs.order_list.OrderList.move_to_back.Goals as goal
 
 pub relink-requires-clause-slot : goal.relink-requires-clause-slot
-relink-requires-clause-slot g c =
-    let req = rw (← c.self.view_is) at c.requires in
-    omega (arith, (near _ _ _ _ _ c.self.invariant req).within)
+relink-requires-clause-slot g c = omega (arith, (near c.self.invariant c.args.slot (rw (← c.self.view_is) at c.requires)).within)
 
 pub relink-requires-clause-before : goal.relink-requires-clause-before
-relink-requires-clause-before g c past =
-    let req = rw (← c.self.view_is) at c.requires in
-    omega (arith, befores-any past c.self.inside.blank c.self.inside.nodes.items c.args.slot, (near _ _ _ _ _ c.self.invariant req).before_within)
+relink-requires-clause-before g c past = omega (arith, before-any c.self.invariant c.args.slot (rw (← c.self.view_is) at c.requires) past)
 
 pub relink-requires-clause-behind : goal.relink-requires-clause-behind
-relink-requires-clause-behind g c past =
-    let req = rw (← c.self.view_is) at c.requires in
-    omega (arith, behinds-any past c.self.inside.blank c.self.inside.nodes.items c.args.slot, (near _ _ _ _ _ c.self.invariant req).behind_within)
+relink-requires-clause-behind g c past = omega (arith, behind-any c.self.invariant c.args.slot (rw (← c.self.view_is) at c.requires) past)
 
 pub relink-requires-clause-last : goal.relink-requires-clause-last
-relink-requires-clause-last g c past =
-    let req = rw (← c.self.view_is) at c.requires in
-    omega (arith, last-any past c.self.inside.blank _ _ _ _ c.self.invariant req)
+relink-requires-clause-last g c past = omega (arith, last-detached c.self.invariant c.args.slot (rw (← c.self.view_is) at c.requires) past)
 
 pub invariant_of-self : goal.invariant_of-self
 invariant_of-self g c =
-    let req = rw (← c.self.view_is) at c.requires in
-    rw (c.relink.ensures.nodes c.self.inside.blank) (moved _ _ _ _ _ c.self.invariant req).order
+    let found = value-of c.self.invariant c.args.slot (rw (← c.self.view_is) at c.requires) in
+    rw (c.relink.ensures.nodes c.self.inside.blank) (moved c.self.invariant c.args.slot _ found).order
 
 pub returns-clause-members : goal.returns-clause-members
-returns-clause-members g c number e =
-    let req = rw (← c.self.view_is) at c.requires in
-    let is = rw (← c.self.view_is) at e in
-    let found = number-of _ _ _ _ _ c.self.invariant req in
-    let same : values c.self.inside.blank c.self.inside.nodes.items c.args.slot ≡ number = cc (is, found) in
-    rw (c.relink.ensures.nodes c.self.inside.blank, ← c.self.view_is)
-    ((moved _ _ _ _ _ c.self.invariant req).members_are ∙ ap (λ n. remove_entry (nat_eq c.args.slot) (members_of c.self.inside.blank c.self.inside.nodes.items c.self.inside.len) ++ (c.args.slot, n) ∷ []) same)
+returns-clause-members g c value found =
+    rw (c.relink.ensures.nodes c.self.inside.blank, ← c.self.view_is) (moved c.self.invariant c.args.slot value (rw (← c.self.view_is) at found)).members_are
 
 pub returns-clause-lookups : goal.returns-clause-lookups
 returns-clause-lookups g c k =
-    let req = rw (← c.self.view_is) at c.requires in
+    let found = value-of c.self.invariant c.args.slot (rw (← c.self.view_is) at c.requires) in
     rw (c.relink.ensures.nodes c.self.inside.blank, ← c.self.view_is)
-    (ap (lookup (nat_eq k)) (moved _ _ _ _ _ c.self.invariant req).members_are
-    ∙ lookup-moved _ _ _ k (distinct-members _ _ _ _ c.self.invariant) (number-of _ _ _ _ _ c.self.invariant req))
+    (ap (lookup (nat_eq k)) (moved c.self.invariant c.args.slot _ found).members_are ∙ lookup-moved _ _ _ k (distinct-members c.self.invariant) found)
 
 pub returns-clause-len : goal.returns-clause-len
 returns-clause-len g c =
-    let req = rw (← c.self.view_is) at c.requires in
+    let found = value-of c.self.invariant c.args.slot (rw (← c.self.view_is) at c.requires) in
     rw (c.relink.ensures.nodes c.self.inside.blank, ← c.self.view_is)
-    (omega (arith, length-members _ _ _ _ (moved _ _ _ _ _ c.self.invariant req).order, length-members _ _ _ _ c.self.invariant))
+    (length-members (moved c.self.invariant c.args.slot _ found).order ∙ sym (length-members c.self.invariant))
 
 pub returns-clause-distinct : goal.returns-clause-distinct
-returns-clause-distinct g c = rw (← c.self.view_is) (distinct-members _ _ _ _ c.self.invariant)
+returns-clause-distinct g c = rw (← c.self.view_is) (distinct-members c.self.invariant)

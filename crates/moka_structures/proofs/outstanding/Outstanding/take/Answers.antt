@@ -1,13 +1,9 @@
-use Rattle.std.proofs.Common.{◌+◌, cond, Some, IsSome, is_some, nat_eq, sym, ap, subst, ◌∙◌}
-use Rattle.std.specs.FinMap as map
-use Rattle.moka_structures.specs.Newest.{with_newest}
-use Rattle.moka_structures.proofs.Newest.{IsOther, other-some, other-none, get-newest, get-other, get-taken, remove-newest, remove-other, older-without, len-without}
-use Rattle.moka_structures.proofs.Tickets.{left-of}
+use Rattle.std.proofs.Common.{sym, ◌∙◌}
+use Rattle.moka_structures.proofs.Newest.{IsOther, other-some, other-none, get-newest, get-other, remove-newest, remove-other, older-without, gets-taken, left-taken, len-taken}
 use Rattle.moka_structures.proofs.outstanding.Outstanding.take.Goals.{in_default-via-in-Some+else-newest-ticket, in_default-via-in_default}
 use Rattle.moka_structures.proofs.outstanding.Outstanding.take.Goals as goal
 
-pub invariant_of-self-in_default : goal.invariant_of-self-in_default
-invariant_of-self-in_default g c = older-without c.self.inside.newest c.self.inside.older.items c.take.new.self.items c.args.ticket c.take.ensures.items c.self.invariant
+-- ---- the newest
 
 pub returns-in-Some-clause-item : goal.returns-in-Some-clause-item
 returns-in-Some-clause-item g c =
@@ -18,16 +14,18 @@ returns-in-Some-clause-items g c =
     rw (← c.self.view_is) (remove-newest c.self.inside.newest c.self.inside.older.items c.in-Some.newest c.in-Some.is c.self.invariant c.args.ticket c.if-newest-ticket.true)
 
 pub returns-in-Some-clause-gets : goal.returns-in-Some-clause-gets
-returns-in-Some-clause-gets g c q =
-    rw (← c.self.view_is) (ap (λ i. map.get i q) (remove-newest c.self.inside.newest c.self.inside.older.items c.in-Some.newest c.in-Some.is c.self.invariant c.args.ticket c.if-newest-ticket.true) ∙ get-taken (with_newest c.self.inside.newest c.self.inside.older.items) c.args.ticket q)
+returns-in-Some-clause-gets g c = gets-taken _ _ c.args.ticket (returns-in-Some-clause-items g c)
 
 pub returns-in-Some-clause-left : goal.returns-in-Some-clause-left
-returns-in-Some-clause-left g c q h =
-    rw (← c.self.view_is) (left-of (nat_eq c.args.ticket q) _ (subst (λ o. IsSome o) (ap (λ i. map.get i q) (remove-newest c.self.inside.newest c.self.inside.older.items c.in-Some.newest c.in-Some.is c.self.invariant c.args.ticket c.if-newest-ticket.true) ∙ get-taken (with_newest c.self.inside.newest c.self.inside.older.items) c.args.ticket q) h))
+returns-in-Some-clause-left g c = left-taken _ _ c.args.ticket (returns-in-Some-clause-items g c)
 
 pub returns-in-Some-clause-len : goal.returns-in-Some-clause-len
-returns-in-Some-clause-len g c =
-    rw (← c.self.view_is) (ap (λ i. map.len i + 1) (remove-newest c.self.inside.newest c.self.inside.older.items c.in-Some.newest c.in-Some.is c.self.invariant c.args.ticket c.if-newest-ticket.true) ∙ len-without (with_newest c.self.inside.newest c.self.inside.older.items) c.args.ticket (Some c.in-Some.newest.item) (sym (get-newest c.self.inside.newest c.self.inside.older.items c.in-Some.newest c.in-Some.is c.args.ticket c.if-newest-ticket.true)))
+returns-in-Some-clause-len g c = len-taken _ _ c.args.ticket (returns-in-Some-clause-items g c) _ (returns-in-Some-clause-item g c)
+
+-- ---- another
+
+pub invariant_of-self-in_default : goal.invariant_of-self-in_default
+invariant_of-self-in_default g c = older-without c.self.inside.newest c.self.inside.older.items c.take.new.self.items c.args.ticket c.take.ensures.items c.self.invariant
 
 pub returns-in_default-clause-item : goal.returns-in_default-clause-item
 returns-in_default-clause-item g c =
@@ -46,25 +44,10 @@ returns-in_default-clause-items g c =
     rw (← c.self.view_is) (remove-other c.self.inside.newest c.self.inside.older.items c.take.new.self.items c.args.ticket other c.take.ensures.items)
 
 pub returns-in_default-clause-gets : goal.returns-in_default-clause-gets
-returns-in_default-clause-gets g c q =
-    let other = elim c.in_default.branch as (λ _. IsOther c.self.inside.newest c.args.ticket) [
-      | in_default-via-in-Some+else-newest-ticket w ↦ other-some c.self.inside.newest w.in-Some.newest c.args.ticket w.in-Some.is w.if-newest-ticket.false
-      | in_default-via-in_default w ↦ other-none c.self.inside.newest c.args.ticket w.in_default.is
-    ] in
-    rw (← c.self.view_is) (ap (λ i. map.get i q) (remove-other c.self.inside.newest c.self.inside.older.items c.take.new.self.items c.args.ticket other c.take.ensures.items) ∙ get-taken (with_newest c.self.inside.newest c.self.inside.older.items) c.args.ticket q)
+returns-in_default-clause-gets g c = gets-taken _ _ c.args.ticket (returns-in_default-clause-items g c)
 
 pub returns-in_default-clause-left : goal.returns-in_default-clause-left
-returns-in_default-clause-left g c q h =
-    let other = elim c.in_default.branch as (λ _. IsOther c.self.inside.newest c.args.ticket) [
-      | in_default-via-in-Some+else-newest-ticket w ↦ other-some c.self.inside.newest w.in-Some.newest c.args.ticket w.in-Some.is w.if-newest-ticket.false
-      | in_default-via-in_default w ↦ other-none c.self.inside.newest c.args.ticket w.in_default.is
-    ] in
-    rw (← c.self.view_is) (left-of (nat_eq c.args.ticket q) _ (subst (λ o. IsSome o) (ap (λ i. map.get i q) (remove-other c.self.inside.newest c.self.inside.older.items c.take.new.self.items c.args.ticket other c.take.ensures.items) ∙ get-taken (with_newest c.self.inside.newest c.self.inside.older.items) c.args.ticket q) h))
+returns-in_default-clause-left g c = left-taken _ _ c.args.ticket (returns-in_default-clause-items g c)
 
 pub returns-in_default-clause-len : goal.returns-in_default-clause-len
-returns-in_default-clause-len g c =
-    let other = elim c.in_default.branch as (λ _. IsOther c.self.inside.newest c.args.ticket) [
-      | in_default-via-in-Some+else-newest-ticket w ↦ other-some c.self.inside.newest w.in-Some.newest c.args.ticket w.in-Some.is w.if-newest-ticket.false
-      | in_default-via-in_default w ↦ other-none c.self.inside.newest c.args.ticket w.in_default.is
-    ] in
-    rw (← c.self.view_is) (ap (λ i. map.len i + cond (is_some c.take.result) 1 0) (remove-other c.self.inside.newest c.self.inside.older.items c.take.new.self.items c.args.ticket other c.take.ensures.items) ∙ len-without (with_newest c.self.inside.newest c.self.inside.older.items) c.args.ticket c.take.result (c.take.ensures.item ∙ sym (get-other c.self.inside.newest c.self.inside.older.items c.args.ticket other)))
+returns-in_default-clause-len g c = len-taken _ _ c.args.ticket (returns-in_default-clause-items g c) _ (returns-in_default-clause-item g c)

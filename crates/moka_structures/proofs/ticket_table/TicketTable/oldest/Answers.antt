@@ -1,6 +1,5 @@
 use Rattle.std.proofs.Common.{sym, refl}
-use Rattle.moka_structures.specs.Tickets.{items_of}
-use Rattle.moka_structures.proofs.Tickets.{member-out, least-ticket, none-out, some-empty}
+use Rattle.moka_structures.proofs.Tickets.{member-out, least-ticket, none-out, some-lowest}
 use Rattle.moka_structures.proofs.ticket_table.TicketTable.oldest.Goals as goal
 
 pub returns-in-Some-clause-least : goal.returns-in-Some-clause-least
@@ -12,9 +11,7 @@ returns-in-Some-clause-least g c =
     rw (← c.self.view_is) (member-out o m t c.in-Some.field-0-0 ticket c.in-Some.ensures.found, least-ticket o m t c.in-Some.field-0-0 ticket (sym c.in-Some.ensures.front))
 
 pub returns-in-Some-clause-none : goal.returns-in-Some-clause-none
-returns-in-Some-clause-none g c =
-    let out = member-out c.self.inside.order.members c.self.inside.waiting c.self.invariant c.in-Some.field-0-0 c.in-Some.ticket c.in-Some.ensures.found in
-    rw (← c.self.view_is) (λ h. absurd (let x = h in cc), λ h. absurd (some-empty (items_of c.self.inside.waiting) c.in-Some.ticket out h))
+returns-in-Some-clause-none g c = some-lowest _ c.in-Some.ticket (returns-in-Some-clause-least g c).0
 
 pub returns-in-None-clause-none : goal.returns-in-None-clause-none
 returns-in-None-clause-none g c =

@@ -1,7 +1,7 @@
 use Rattle.std.proofs.Common.{◌≡◌, arith, sym, ap, ◌∙◌, refl, subst, Option, Some, None, IfNone}
 use Rattle.std.proofs.lemmas.List.{get_or_read}
 use Rattle.moka_wheel.specs.Nodes.{Node, blank, behinds}
-use Rattle.moka_wheel.proofs.Sound.{all-later, any-later, first-is}
+use Rattle.moka_wheel.proofs.Sound.{all-later, any-later, behind-read}
 use Rattle.moka_wheel.proofs.buckets.Buckets.due.Goals as goal
 
 if-none : {A : Type 0} (o : Option A) (P Q : Type 0) → (P → Q) → IfNone o P → IfNone o Q
@@ -22,19 +22,9 @@ returns-then-not-step-clause-none c i t =
 
 pub returns-clause-some : goal.returns-clause-some
 returns-clause-some c =
-    let ns = c.loop-self.self.nodes.items in
-    let sized = c.loop-self.invariant.placed.links.sized in
-    let r1 = ap (λ (n : Node). n.behind) (get_or_read ns 2048 c.index.result.now (omega (arith, sized)) c.index.ensures blank) in
-    let r2 = ap (λ (n : Node). n.behind) (get_or_read ns 2048 c.index-2.result.now (omega (arith, sized)) c.index-2.ensures blank) in
-    let f = first-is ns _ _ 2048 2048 c.loop-self.invariant.placed (omega arith) (λ e. c.loop-self-test.false (r1 ∙ e)) in
-    rw r2 f.0
+    (behind-read _ _ _ 2048 2048 c.index.result.now c.index-2.result.now c.loop-self.invariant.placed (omega arith) c.index.ensures c.index-2.ensures c.loop-self-test.false).0
 
 pub returns-clause-due : goal.returns-clause-due
 returns-clause-due c =
-    let ns = c.loop-self.self.nodes.items in
-    let sized = c.loop-self.invariant.placed.links.sized in
-    let r1 = ap (λ (n : Node). n.behind) (get_or_read ns 2048 c.index.result.now (omega (arith, sized)) c.index.ensures blank) in
-    let r2 = ap (λ (n : Node). n.behind) (get_or_read ns 2048 c.index-2.result.now (omega (arith, sized)) c.index-2.ensures blank) in
-    let f = first-is ns _ _ 2048 2048 c.loop-self.invariant.placed (omega arith) (λ e. c.loop-self-test.false (r1 ∙ e)) in
-    let d = c.loop-self.invariant.placed.due _ f.0 f.1 in
-    rw r2 (omega (arith, d, c.loop-self.invariant.late))
+    let f = behind-read _ _ _ 2048 2048 c.index.result.now c.index-2.result.now c.loop-self.invariant.placed (omega arith) c.index.ensures c.index-2.ensures c.loop-self-test.false in
+    omega (arith, c.loop-self.invariant.placed.due _ f.0 f.1, c.loop-self.invariant.late)

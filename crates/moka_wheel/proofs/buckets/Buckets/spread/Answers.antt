@@ -6,25 +6,20 @@ use Rattle.moka_wheel.proofs.Sound.{empty-placed}
 use Rattle.moka_wheel.proofs.Turns.{first-read, moved, fewer}
 use Rattle.moka_wheel.proofs.buckets.Buckets.spread.Goals as goal
 
-pub detach-requires-clause-before : goal.detach-requires-clause-before
-detach-requires-clause-before c =
+pub detach-requires : goal.detach-requires
+detach-requires c =
     let f = first-read _ _ _ c.args.bucket _ _ c.loop-self.invariant.placed c.requires.within c.index.ensures c.index-in-loop-self.ensures c.loop-self-test.true in
-    omega (arith, f.leaves.before_in)
+    record { slot = omega (arith, f.leaves.timer.within); before = omega (arith, f.leaves.before_in); behind = omega (arith, f.leaves.behind_in) }
 
-pub detach-requires-clause-behind : goal.detach-requires-clause-behind
-detach-requires-clause-behind c =
+pub place-requires : goal.place-requires
+place-requires c =
     let f = first-read _ _ _ c.args.bucket _ _ c.loop-self.invariant.placed c.requires.within c.index.ensures c.index-in-loop-self.ensures c.loop-self-test.true in
-    omega (arith, f.leaves.behind_in)
-
-pub place-requires-clause-slot : goal.place-requires-clause-slot
-place-requires-clause-slot c =
-    let f = first-read _ _ _ c.args.bucket _ _ c.loop-self.invariant.placed c.requires.within c.index.ensures c.index-in-loop-self.ensures c.loop-self-test.true in
-    omega (arith, f.leaves.slot_in, ap length c.detach.ensures.nodes)
-
-pub place-requires-clause-links : goal.place-requires-clause-links
-place-requires-clause-links c h low =
-    let f = first-read _ _ _ c.args.bucket _ _ c.loop-self.invariant.placed c.requires.within c.index.ensures c.index-in-loop-self.ensures c.loop-self-test.true in
-    rw c.detach.ensures.nodes (omega (arith, f.leaves.last_in h low, ap length c.detach.ensures.nodes))
+    let size = ap length c.detach.ensures.nodes in
+    record {
+      slot = omega (arith, f.leaves.slot_in, size);
+      heads = omega (arith, f.leaves.heads, size);
+      links = λ h low. rw c.detach.ensures.nodes (omega (arith, f.leaves.last_in h low, size));
+    }
 
 pub loop-self-smaller : goal.loop-self-smaller
 loop-self-smaller c =
@@ -48,8 +43,3 @@ returns-clause-placed c =
     let sized = c.loop-self.invariant.placed.links.sized in
     let r1 = ap (λ (n : Node). n.behind) (get_or_read ns c.args.bucket c.index.result.now (omega (arith, sized)) c.index.ensures blank) in
     empty-placed ns c.loop-self.self.occupied c.unmark.new.occupied c.loop-self.self.moment c.args.bucket c.loop-self.invariant.placed c.requires.within (sym r1 ∙ c.loop-self-test.false) c.unmark.ensures.here c.unmark.ensures.others
-
-pub detach-requires-clause-slot : goal.detach-requires-clause-slot
-detach-requires-clause-slot c =
-    let f = first-read _ _ _ c.args.bucket _ _ c.loop-self.invariant.placed c.requires.within c.index.ensures c.index-in-loop-self.ensures c.loop-self-test.true in
-    omega (arith, f.leaves.timer.within)

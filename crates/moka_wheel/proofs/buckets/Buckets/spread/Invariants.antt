@@ -1,7 +1,7 @@
 use Rattle.std.proofs.Common.{◌≡◌}
 use Rattle.moka_links.specs.Links.{KeepsCapacity}
 use Rattle.moka_wheel.specs.Buckets.{AreBuckets, Keeps}
-use Rattle.moka_wheel.proofs.Frames.{count}
+use Rattle.moka_wheel.proofs.Turns.{count}
 use Rattle.moka_wheel.proofs.buckets.Buckets.spread.Given as goal
 
 abbrev pub invariant-loop-self : goal.invariant-loop-self

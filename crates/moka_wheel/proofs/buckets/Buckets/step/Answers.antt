@@ -1,5 +1,6 @@
-use Rattle.std.proofs.Common.{arith}
-use Rattle.moka_wheel.proofs.Moves.{reach}
+use Rattle.std.proofs.Common.{◌*◌, ◌/◌, arith}
+use Rattle.std.proofs.lemmas.Nat.{pow_pos}
+use Rattle.moka_wheel.proofs.Moves.{start, part-within, reach}
 use Rattle.moka_wheel.proofs.Sound.{reach-placed, early-placed}
 use Rattle.moka_wheel.proofs.buckets.Buckets.step.Goals as goal
 
@@ -9,9 +10,11 @@ returns-then-now-start-clause-placed c =
 
 pub spread-requires-clause-reached : goal.spread-requires-clause-reached
 spread-requires-clause-reached c =
-    rw c.start_of-start.ensures (reach-placed _ _ c.args.self.now.moment c.in-Some.bucket c.requires.placed c.in-Some.ensures.within c.in-Some.ensures.marked c.in-Some.ensures.first)
+    let at = part-within (c.in-Some.bucket / 256) (start c.args.self.now.moment c.in-Some.bucket) c.start_of-start.result c.min.result c.span_of.result c.start_of-start.ensures c.span_of.ensures (omega (arith, c.min.ensures, c.span_of.ensures, pow_pos (8 * (c.in-Some.bucket / 256)))) in
+    reach-placed _ _ c.args.self.now.moment _ c.in-Some.bucket c.requires.placed c.in-Some.ensures.within c.in-Some.ensures.marked c.in-Some.ensures.first at
 
 pub returns-clause-moved : goal.returns-clause-moved
 returns-clause-moved c _ =
-    let r = reach c.args.self.now.moment c.in-Some.bucket (c.requires.placed.ahead c.in-Some.bucket c.in-Some.ensures.within (λ e. omega (arith, c.in-Some.ensures.within)) c.in-Some.ensures.marked) in
-    omega (arith, r.later, c.spread.ensures.moment, c.start_of-start.ensures)
+    let at = part-within (c.in-Some.bucket / 256) (start c.args.self.now.moment c.in-Some.bucket) c.start_of-start.result c.min.result c.span_of.result c.start_of-start.ensures c.span_of.ensures (omega (arith, c.min.ensures, c.span_of.ensures, pow_pos (8 * (c.in-Some.bucket / 256)))) in
+    let r = reach c.args.self.now.moment _ c.in-Some.bucket (c.requires.placed.ahead c.in-Some.bucket c.in-Some.ensures.within (λ e. omega (arith, c.in-Some.ensures.within)) c.in-Some.ensures.marked) at in
+    omega (arith, r.later, c.spread.ensures.moment)

@@ -15,28 +15,19 @@ invariant_of-self g c =
     let found = occupied_at c.self.inside.slots.items c.args.place (rw (← c.self.view_is) at c.requires) in
     rw (c.replace-row.ensures.after, c.vacant.ensures) (IsSound-vacate _ _ _ c.args.place found.0 c.self.invariant found.1)
 
-pub returns-clause-changes : goal.returns-clause-changes
-returns-clause-changes g c =
-    let found = occupied_at c.self.inside.slots.items c.args.place (rw (← c.self.view_is) at c.requires) in
-    rw (← c.self.view_is, c.replace-row.ensures.after, c.vacant.ensures) (set-changes _ _ (Vacant c.self.inside.vacant) (slice_get_within _ _ _ found.1))
-
-pub returns-clause-len : goal.returns-clause-len
-returns-clause-len g c =
-    let found = occupied_at c.self.inside.slots.items c.args.place (rw (← c.self.view_is) at c.requires) in
-    let counted = count-set c.self.inside.slots.items c.args.place (Occupied found.0) (Vacant c.self.inside.vacant) found.1 in
-    rw (← c.self.view_is, c.replace-row.ensures.after, c.vacant.ensures) (omega arith)
-
-pub returns-clause-length : goal.returns-clause-length
-returns-clause-length g c = rw (← c.self.view_is, c.replace-row.ensures.after) (length-rows _ _ _)
-
-pub returns-clause-room : goal.returns-clause-room
-returns-clause-room g c =
-    let found = occupied_at c.self.inside.slots.items c.args.place (rw (← c.self.view_is) at c.requires) in
-    let counted = count-set c.self.inside.slots.items c.args.place (Occupied found.0) (Vacant c.self.inside.vacant) found.1 in
-    rw (← c.self.view_is) (omega (arith, counted, c.self.invariant.counted, c.self.invariant.total))
-
 pub overflow_sub-self : goal.overflow_sub-self
 overflow_sub-self g c =
     let found = occupied_at c.self.inside.slots.items c.args.place (rw (← c.self.view_is) at c.requires) in
     let counted = count-set c.self.inside.slots.items c.args.place (Occupied found.0) (Vacant c.self.inside.vacant) found.1 in
     omega (arith, counted, c.self.invariant.counted)
+
+pub returns : goal.returns
+returns g c =
+    let found = occupied_at c.self.inside.slots.items c.args.place (rw (← c.self.view_is) at c.requires) in
+    let counted = count-set c.self.inside.slots.items c.args.place (Occupied found.0) (Vacant c.self.inside.vacant) found.1 in
+    record {
+      changes = rw (← c.self.view_is, c.replace-row.ensures.after, c.vacant.ensures) (set-changes _ _ (Vacant c.self.inside.vacant) (slice_get_within _ _ _ found.1));
+      length = rw (← c.self.view_is, c.replace-row.ensures.after) (length-rows _ _ _);
+      len = rw (← c.self.view_is, c.replace-row.ensures.after, c.vacant.ensures) (omega arith);
+      room = rw (← c.self.view_is) (omega (arith, counted, c.self.invariant.counted, c.self.invariant.total));
+    }

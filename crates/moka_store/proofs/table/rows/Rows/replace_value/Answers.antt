@@ -13,23 +13,20 @@ invariant_of-self g c =
     let row = stored_row _ c.args.place (rw (← c.self.view_is) at c.requires) in
     (rewritten _ _ _ _ _ _ _ _ c.self.invariant row.2 c.index_mut.ensures.value (λ read. c.replace_value.ensures.new row.0 row.1 read row.3)).sound
 
-pub returns-clause-value : goal.returns-clause-value
-returns-clause-value g c = λ f is.
-    let row = stored_row _ c.args.place (rw (← c.self.view_is) at c.requires) in
-    let own = rw (← c.self.view_is, row.2) at is in
-    c.replace_value.ensures.value row.0 f (read_there c.self.inside.slots.items c.args.place _ _ row.2 c.index_mut.ensures.value) own
-
-pub returns-clause-rows : goal.returns-clause-rows
-returns-clause-rows g c = λ f is.
-    let row = stored_row _ c.args.place (rw (← c.self.view_is) at c.requires) in
-    let own = rw (← c.self.view_is, row.2) at is in
-    rw (← c.self.view_is, row.2) (rewritten _ _ _ _ _ _ _ _ c.self.invariant row.2 c.index_mut.ensures.value (λ read. c.replace_value.ensures.new row.0 f read own)).rows
-
 pub replace_value-requires : goal.replace_value-requires
 replace_value-requires g c =
     let row = stored_row _ c.args.place (rw (← c.self.view_is) at c.requires) in
     let read = read_there c.self.inside.slots.items c.args.place _ _ row.2 c.index_mut.ensures.value in
     rw (read, row.3) refl
 
-pub returns-clause-room : goal.returns-clause-room
-returns-clause-room g c = rw (← c.self.view_is) refl
+pub returns : goal.returns
+returns g c =
+    let row = stored_row _ c.args.place (rw (← c.self.view_is) at c.requires) in
+    let read = read_there c.self.inside.slots.items c.args.place _ _ row.2 c.index_mut.ensures.value in
+    record {
+      value = λ f is. c.replace_value.ensures.value row.0 f read (rw (← c.self.view_is, row.2) at is);
+      rows = λ f is.
+          let own = rw (← c.self.view_is, row.2) at is in
+          rw (← c.self.view_is, row.2) (rewritten _ _ _ _ _ _ _ _ c.self.invariant row.2 c.index_mut.ensures.value (λ read. c.replace_value.ensures.new row.0 f read own)).rows;
+      room = rw (← c.self.view_is) refl;
+    }
