@@ -3,9 +3,9 @@
 use crate::RemovalCause;
 use crate::engine::moka_engine::Listener;
 use crate::key::Key;
-use std::cell::Cell;
+use std::cell::{Cell, RefCell};
 use std::collections::VecDeque;
-use std::mem;
+use std::mem::{self, ManuallyDrop};
 use std::panic::{AssertUnwindSafe, catch_unwind};
 use std::sync::atomic::{AtomicBool, Ordering};
 use std::sync::{Arc, Condvar, Mutex, MutexGuard, PoisonError};
@@ -29,6 +29,65 @@ const MOST_IN_TURN: usize = 256;
 thread_local! {
     // Whether this thread is in a listener or a maker.
     static IS_AWAITED: Cell<bool> = const { Cell::new(false) };
+    // There while the thread ends too, so nothing drops it: it has no memory but while a listener is called.
+    static TELLING: RefCell<ManuallyDrop<Telling>> = const { RefCell::new(ManuallyDrop::new(Telling::NONE)) };
+}
+
+/// Whose listener this thread is calling: that of a cache, which has this address, within those of the outer ones.
+struct Telling {
+    cache: Option<usize>,
+    outer: Vec<usize>,
+    // Shards of these caches whose notices come next.
+    next: VecDeque<(usize, usize)>,
+}
+
+impl Telling {
+    const NONE: Self = Telling {
+        cache: None,
+        outer: Vec::new(),
+        next: VecDeque::new(),
+    };
+
+    // Whether the notices of this shard may be told now. Otherwise they come next.
+    #[inline]
+    fn begins(&mut self, cache: usize, shard: usize) -> bool {
+        if let Some(outer) = self.cache {
+            if outer == cache || self.outer.contains(&cache) {
+                self.next.push_back((cache, shard));
+                return false;
+            }
+            self.outer.push(outer);
+        }
+        self.cache = Some(cache);
+        true
+    }
+
+    // The shard of the innermost cache that comes next. If there is none the telling ends.
+    #[inline]
+    fn go_on(&mut self, cache: usize) -> Option<usize> {
+        if !self.next.is_empty() {
+            let place = self.next.iter().position(|next| next.0 == cache);
+            if let Some((_, shard)) = place.and_then(|place| self.next.remove(place)) {
+                return Some(shard);
+            }
+        }
+        self.cache = self.outer.pop();
+        if self.cache.is_none() && self.next.capacity() + self.outer.capacity() > 0 {
+            *self = Telling::NONE;
+        }
+        None
+    }
+}
+
+/// Tells the notices of a shard of a cache, which has this address, and then of each for which this is called from
+/// within the listener meanwhile: so that is never called within itself. Telling must not panic.
+pub(crate) fn tell_in_turn(cache: usize, shard: usize, tell: impl Fn(usize)) {
+    if TELLING.with_borrow_mut(|telling| telling.begins(cache, shard)) {
+        tell(shard);
+        while let Some(shard) = TELLING.with_borrow_mut(|telling| telling.go_on(cache)) {
+            tell(shard);
+        }
+    }
 }
 
 /// While it is there this thread waits for no turn: in a listener or a maker others may wait for it.
@@ -100,7 +159,9 @@ impl<K, V> Notices<K, V> {
     pub fn put(&self, left: Left<K, V>) {
         let mut queue = locked(&self.queue);
         queue.waiting.push_back(left.first);
-        queue.waiting.extend(left.more);
+        if !left.more.is_empty() {
+            queue.waiting.extend(left.more);
+        }
     }
 
     /// Notifies the listener of what waits. If another thread does that, it goes on with these; if the listener itself

@@ -71,12 +71,24 @@ impl<K, V> fmt::Debug for Settings<K, V> {
     }
 }
 
-/// The engine's weigher.
-pub(crate) struct Weighing<K, V>(pub Weighs<K, V>);
+/// The engine's weigher. What is too heavy to be kept weighs one more than the capacity: the engine makes its sketch as
+/// long as the weight of all asks, so one entry of a great weight would take gigabytes.
+pub(crate) struct Weighing<K, V> {
+    weigher: Weighs<K, V>,
+    most: u32,
+}
+
+impl<K, V> Weighing<K, V> {
+    pub fn new(weigher: Weighs<K, V>, capacity: Option<u64>) -> Self {
+        let most = capacity.and_then(|capacity| u32::try_from(capacity).ok()?.checked_add(1));
+        let most = most.unwrap_or(u32::MAX);
+        Weighing { weigher, most }
+    }
+}
 
 impl<K, V> engine::Weigher<crate::key::Key<'_, K>, V> for Weighing<K, V> {
     fn weigh(&self, key: &crate::key::Key<'_, K>, value: &V) -> u32 {
-        key.shared().map_or(0, |key| (self.0)(key, value))
+        key.shared().map_or(0, |key| (self.weigher)(key, value).min(self.most))
     }
 }
 
@@ -203,8 +215,9 @@ macro_rules! setters {
             self
         }
 
-        /// Weighs each entry as it is inserted. It has to give equal weights for equal arguments. By default each
-        /// weighs 1.
+        /// Weighs each entry as it is inserted. It has to give equal weights for equal arguments. One that exceeds the
+        /// capacity, or a shard's share of it, counts as one more than that: such an entry is not kept. By default
+        /// each weighs 1.
         ///
         /// ```
         /// # use ravulemis::sync::Cache;

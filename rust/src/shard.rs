@@ -524,13 +524,14 @@ fn cache<K: 'static, V>(settings: &Settings<K, V>, capacity: Option<u64>, mut cl
         let (expiry, start) = (Arc::clone(expiry), clock.0);
         expirations.set_expiry(Asked { expiry, start });
     }
+    let weigher = settings.weigher.clone();
     let engine = BaseCache::new(
         Global,
         None,
         capacity,
         settings.initial_capacity,
         Carried,
-        settings.weigher.clone().map(Weighing),
+        weigher.map(|weigher| Weighing::new(weigher, capacity)),
         settings.eviction_policy,
         Some(CountingListener::new(Teller::new(has_listener))),
         expirations,

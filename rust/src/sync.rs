@@ -69,11 +69,12 @@ struct Shared<K: 'static, V, S> {
 /// the next, so its answer is no snapshot while other threads call.
 ///
 /// The listener is called after the lock is released, in the order in which values left the shard, by the thread by
-/// whose call they left, or by another that is notifying already. So it may call the cache. It must not wait for
-/// another thread that calls the cache: if 1,024 notices are pending, that one may wait for it. Nor may it put back
-/// each value that leaves with `Size`: another leaves for it, so the call never ends. A call by which nothing left
-/// neither calls the listener nor waits for it. If a maker or a closure of an entry calls the cache, the listener may
-/// be called within it: then it must not have a value made or computed for that key.
+/// whose call they left, or by another that is notifying already. So it may call the cache: of what leaves by that it
+/// is notified when it has returned, so a thread never calls it within itself. It must not wait for another thread that
+/// calls the cache: if 1,024 notices are pending, that one may wait for it. Nor may it put back each value that leaves
+/// with `Size`: another leaves for it, so the call never ends. A call by which nothing left neither calls the listener
+/// nor waits for it. If a maker or a closure of an entry calls the cache, the listener may be called within it: then it
+/// must not have a value made or computed for that key.
 ///
 /// The weigher, the expiry and predicates, `Eq` of keys and `Clone` of values may be called under the lock of a shard:
 /// they must neither call the cache nor wait for a lock that a thread holds while it calls the cache. The same holds

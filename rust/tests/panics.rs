@@ -123,6 +123,25 @@ fn a_predicate_that_panics_empties_the_cache() {
     assert_eq!(cache.get(&1), Some('c'));
 }
 
+#[test]
+fn a_predicate_that_panics_in_two_shards_ends_no_process() {
+    let builder = sync::Cache::builder().time_to_live(Duration::from_secs(60));
+    let cache = builder.shards(16).support_invalidation_closures().build();
+    for key in 0..1000 {
+        cache.insert(key, 'a');
+    }
+    let predicate = |_: &u32, _: &char| panic!("a predicate that panics");
+    cache.invalidate_entries_if(predicate).unwrap();
+    // A call now visits another shard, where the predicate panics too.
+    thread::sleep(Duration::from_millis(400));
+    assert!(panics(|| cache.get(&0)));
+    for key in 1..1000 {
+        panics(|| cache.get(&key));
+    }
+    cache.insert(1, 'b');
+    assert_eq!((cache.get(&0), cache.get(&1)), (None, Some('b')));
+}
+
 /// A value whose drop panics if it is 13.
 #[derive(Clone)]
 struct Brittle(u32);

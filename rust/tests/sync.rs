@@ -1,7 +1,7 @@
 //! The cache that threads share.
 
 use ravulemis::ops::compute::{CompResult, Op};
-use ravulemis::sync::Cache;
+use ravulemis::sync::{Cache, CacheBuilder};
 use ravulemis::{EvictionPolicy, RemovalCause};
 use std::sync::atomic::{AtomicU32, AtomicU64, Ordering};
 use std::sync::{Arc, Barrier, Mutex, OnceLock, mpsc};
@@ -332,6 +332,40 @@ fn a_listener_may_call_the_cache() {
 }
 
 /// Whether a call comes back. One that does not is left behind.
+// A cache whose listener calls it, and the keys that the listener was told of, by one call after the other.
+fn calling(
+    builder: CacheBuilder<u32, u32>,
+    call: fn(&Cache<u32, u32>, u32),
+) -> (Cache<u32, u32>, Arc<Mutex<Vec<u32>>>) {
+    let cell = Arc::new(OnceLock::<Cache<u32, u32>>::new());
+    let left = Arc::new(Mutex::new(Vec::new()));
+    let (known, told) = (Arc::clone(&cell), Arc::clone(&left));
+    let listener = move |key: Arc<u32>, _, _| {
+        let mut told = told.try_lock().expect("a listener within itself");
+        told.push(*key);
+        call(known.get().unwrap(), *key);
+    };
+    let cache = builder.shards(64).eviction_listener(listener).build();
+    cell.set(cache.clone()).unwrap();
+    (0..1000).for_each(|key| cache.insert(key, key));
+    (cache, left)
+}
+
+#[test]
+fn a_listener_is_never_called_within_itself() {
+    let (cache, left) = calling(Cache::builder(), |cache, key| cache.invalidate(&(key + 1)));
+    cache.invalidate(&0);
+    assert_eq!(*left.lock().unwrap(), (0..1000).collect::<Vec<_>>());
+
+    // A look-up lets what has expired leave, also in other shards.
+    let builder = Cache::builder().time_to_live(Duration::from_millis(100));
+    let (cache, left) = calling(builder, |cache, key| assert_eq!(cache.get(&key), None));
+    thread::sleep(Duration::from_millis(500));
+    assert_eq!(cache.get(&0), None);
+    cache.run_pending_tasks();
+    assert_eq!(left.lock().unwrap().len(), 1000);
+}
+
 fn ends<R>(call: impl FnOnce() -> R + Send + 'static) -> bool {
     let (sender, ended) = mpsc::channel();
     thread::spawn(move || {

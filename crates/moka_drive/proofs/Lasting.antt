@@ -34,7 +34,7 @@ use Rattle.moka_parts.proofs.Kept.{kept_by_run, kept_by_send}
 use Rattle.moka_engine.specs.declared.base_cache.restores.Restored.{Restored}
 use Rattle.moka_drive.specs.Saved.{HasRoomFor, IsRoomyFor, KeepsUnexpired, TakesOnlyExpired, WeighAtMost}
 use Rattle.moka_drive.proofs.Alike.{none_kept}
-use Rattle.moka_drive.proofs.Roomy.{FitsIn, enters, enters_again, left, moved_back, taken_out, never_over, newcomer_has_room}
+use Rattle.moka_drive.proofs.Roomy.{FitsIn, enters, enters_again, fits_still, left, moved_back, taken_out, never_over, newcomer_has_room}
 use Rattle.moka_drive.proofs.Stays.{noted_by, kept_by_writes}
 
 -- the tests of a run with this capacity, and no invalidation of all
@@ -61,19 +61,11 @@ module _ {K V : Type 0} (capacity : Option ℕ) (Waits : ℕ → ℕ → Type 0)
 
   -- a member moves to the back
   back_fits : (c : Contents K V) (k : ℕ) → FitsAll c → FitsAll (after_choice c (MovesToBack k))
-  back_fits c k fits = go capacity fits
-    where
-      go : (o : Option ℕ) → FitsIn o Waits limit c → FitsIn o Waits limit (after_choice c (MovesToBack k))
-      go None fits = tt
-      go (Some most) (fits, enough) = (moved_back Waits limit c.records c.access fits k, enough)
+  back_fits c k fits = fits_still capacity Waits limit c (after_choice c (MovesToBack k)) (λ f. moved_back Waits limit c.records c.access f k) fits
 
   -- the sketch changes
   other_sketch : (c d : Contents K V) → d.records ≡ c.records → d.access ≡ c.access → FitsAll c → FitsAll d
-  other_sketch c d records access fits = go capacity fits
-    where
-      go : (o : Option ℕ) → FitsIn o Waits limit c → FitsIn o Waits limit d
-      go None fits = tt
-      go (Some most) (fits, enough) = (rw (records, access) fits, enough)
+  other_sketch c d records access fits = fits_still capacity Waits limit c d (λ f. rw (records, access) f) fits
 
   -- ---- reads
 
@@ -109,26 +101,15 @@ module _ {K V : Type 0} (capacity : Option ℕ) (Waits : ℕ → ℕ → Type 0)
   fate_fits : (policy : EvictionPolicy) (c : Contents K V) (k g w hash : ℕ) (moved : List ℕ) (q : Record K V) → FitsAll c → Waits k w → get c.records k ≡ Some q → FitsAll (after_fate c k g w moved q (fate_of_record capacity policy c k g w hash q))
   fate_fits policy c k g w hash moved q fits waits there = go (nat_lt q.applied g) (is_member k c.access) refl
     where
-      again : (o : Option ℕ) → FitsIn o Waits limit c → FitsIn o Waits limit (after_fate c k g w moved q Counted)
-      again None fits = tt
-      again (Some most) (fits, enough) = (enters_again Waits limit c.records c.access fits k g w q there (fits.waiting k w waits q there), enough)
-
-      new : (o : Option ℕ) → is_member k c.access ≡ false → FitsIn o Waits limit c → FitsIn o Waits limit (after_fate c k g w moved q Admitted)
-      new None outside fits = tt
-      new (Some most) outside (fits, enough) = (enters Waits limit c.records c.access fits k g w q there (fits.waiting k w waits q there) (none_by_test (counted_of k c.access) outside), enough)
-
       go : (newer member : Bool) → is_member k c.access ≡ member → FitsAll (after_fate c k g w moved q (if newer then (if member then Counted else fate_of_newcomer capacity policy c w hash) else (if member then Overtaken else Ignored)))
-      go true true is = again capacity fits
-      go true false is = subst (λ f. FitsAll (after_fate c k g w moved q f)) (sym (admitted policy c k w hash q fits waits is there)) (new capacity is fits)
+      go true true is = fits_still capacity Waits limit c (after_fate c k g w moved q Counted) (λ f. enters_again Waits limit c.records c.access f k g w q there (f.waiting k w waits q there)) fits
+      go true false is = subst (λ f. FitsAll (after_fate c k g w moved q f)) (sym (admitted policy c k w hash q fits waits is there))
+          (fits_still capacity Waits limit c (after_fate c k g w moved q Admitted) (λ f. enters Waits limit c.records c.access f k g w q there (f.waiting k w waits q there) (none_by_test (counted_of k c.access) is)) fits)
       go false true is = back_fits c k fits
       go false false is = fits
 
   write_fits : (policy : EvictionPolicy) (c : Contents K V) (o : Operation) (moved : List ℕ) → WaitsFor Waits o → FitsAll c → FitsAll (after_write capacity policy c o moved)
-  write_fits policy c (Removal k g) moved waits fits = go capacity fits
-    where
-      go : (o : Option ℕ) → FitsIn o Waits limit c → FitsIn o Waits limit (after_write capacity policy c (Removal k g) moved)
-      go None fits = tt
-      go (Some most) (fits, enough) = (taken_out Waits limit c.records c.access fits k, enough)
+  write_fits policy c (Removal k g) moved waits fits = fits_still capacity Waits limit c (after_write capacity policy c (Removal k g) moved) (λ f. taken_out Waits limit c.records c.access f k) fits
   write_fits policy c (Upsert k g w hash) moved waits fits = found (get c.records k) refl
     where
       found : (o : Option (Record K V)) → get c.records k ≡ o → FitsAll (option_map_or (λ q. after_fate c k g w moved q (option_map_or (fate_of_record capacity policy c k g w hash) o Ignored)) o c)
@@ -138,11 +119,7 @@ module _ {K V : Type 0} (capacity : Option ℕ) (Waits : ℕ → ℕ → Type 0)
   -- ---- steps
 
   removal_fits : (c : Contents K V) (k : ℕ) (cause : RemovalCause) (q : Record K V) → get c.records k ≡ Some q → FitsAll c → FitsAll (after_choice c (Removes k cause))
-  removal_fits c k cause q there fits = go capacity fits
-    where
-      go : (o : Option ℕ) → FitsIn o Waits limit c → FitsIn o Waits limit (after_choice c (Removes k cause))
-      go None fits = tt
-      go (Some most) (fits, enough) = (left Waits limit c.records c.access fits k q there, enough)
+  removal_fits c k cause q there fits = fits_still capacity Waits limit c (after_choice c (Removes k cause)) (λ f. left Waits limit c.records c.access f k q there) fits
 
   steps_fit : {P : Type 0} (says : P → K → V → Bool → Type 0) (q : Tests) (c : Contents K V) (xs : List Choice) → AreJustified says q c [] xs → FitsAll c → FitsAll (after_choices c xs)
   steps_fit says q c [] just fits = fits

@@ -146,6 +146,11 @@ module _ {K V : Type 0} where
   FitsIn None Waits limit c = Unit {0}
   FitsIn (Some capacity) Waits limit c = Fits Waits limit c.records c.access × (limit ≤ capacity)
 
+  -- what leaves room for the limit leaves it where there is a capacity
+  pub fits_still : (capacity : Option ℕ) (Waits : ℕ → ℕ → Type 0) (limit : ℕ) (c d : Contents K V) → (Fits Waits limit c.records c.access → Fits Waits limit d.records d.access) → FitsIn capacity Waits limit c → FitsIn capacity Waits limit d
+  fits_still None Waits limit c d still fits = tt
+  fits_still (Some capacity) Waits limit c d still (fits, enough) = (still fits, enough)
+
   -- so a newcomer has room
   pub newcomer_has_room : (capacity : Option ℕ) (Waits : ℕ → ℕ → Type 0) (limit : ℕ) (c : Contents K V) (k w : ℕ) (q : Record K V) → FitsIn capacity Waits limit c → Waits k w → counted_of k c.access ≡ None → get c.records k ≡ Some q → has_room capacity (total_weight c.access) w ≡ true
   newcomer_has_room None Waits limit c k w q fits waits outside there = refl

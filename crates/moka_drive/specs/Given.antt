@@ -1,5 +1,5 @@
 -- What a look-up sees, and what a call hands out that makes a value where none is seen.
-use Rattle.std.specs.Prelude.{◌≡◌, ℕ, Bool, false, Option, Some, None, ◌⊎◌}
+use Rattle.std.specs.Prelude.{◌≡◌, ℕ, Bool, false, Option, Some, None, Result, Ok, Err, ◌⊎◌}
 use Rattle.moka_parts.specs.declared.records.Record.{Record}
 use Rattle.moka_parts.specs.Calls.{ContainsStep}
 use Rattle.moka_parts.specs.Records.{record_of_key}
@@ -35,3 +35,14 @@ abbrev pub ComesBack : {K V X P W : Type 0} → State K V X P W → State K V X 
     → GetWithRefused K V → Type 0
 ComesBack s t key Answers (Lookup k) = (k ≡ key) × (t ≡ s)
 ComesBack s t key Answers (Insert refused) = (refused.key ≡ key) × Answers refused.value
+
+-- what a call answers whose maker may decline, after one whose maker fails in place of declining
+abbrev pub if_made : {A E : Type 0} → Result (Result A (Unit {0})) E → Result (Option A) E
+if_made (Ok (Ok made)) = Ok (Some made)
+if_made (Ok (Err declined)) = Ok None
+if_made (Err refused) = Err refused
+
+-- what a call answers whose maker may fail, where it does not
+abbrev pub without_error : {A E F : Type 0} → Result A E → Result (Result A F) E
+without_error (Ok made) = Ok (Ok made)
+without_error (Err refused) = Err refused

@@ -17,7 +17,7 @@ ghost use Rattle.moka_parts.specs.declared.records.Record.{Record};
 ghost use Rattle.moka_parts.specs.Hashing.{key_hash};
 ghost use Rattle.moka_drive.specs.Unsent.{HoldsUnsent, HidesNoMore, IsThere, ShowsWrites};
 ghost use Rattle.moka_drive.specs.Counters.{after_look_up, after_load};
-ghost use Rattle.moka_drive.specs.Given.{Sees};
+ghost use Rattle.moka_drive.specs.Given.{Sees, if_made, without_error};
 ghost use Rattle.moka_drive.specs.Saved.{HasOnlyMembers, KeepsRecords, TakesOnlyExpired};
 ghost use Rattle.moka_drive.specs.Synchronous.{fresh, value_found, InsertsMade, HandsOutOwn, Makes, meaning_of, hears_clones, Just, own_run, Posts, InsertsEntry, GetsValue, RemovesEntry, removed, invalidated, taken_out, GetsWith, GetsWithIfMade, GetsWithIfNoError};
 
@@ -33,6 +33,7 @@ use moka_parts::invalidator::{IdSource, PredicateId};
 use moka_parts::notification::{Listener, NoListener};
 use moka_parts::policy::{Expiry, Instant, NoExpiry, Policy};
 use std::alloc::Global;
+use std::convert::Infallible;
 use std::hash::{BuildHasher, Hash};
 use std::marker::Model;
 
@@ -455,15 +456,7 @@ impl<
             V.is_clone key (key_hash S.BuildHasher S.Hasher.Hasher self.old.engine.hasher (K.hash_input key)) now
             self.old clock.old self.new clock.new (F.post init) result }
     {
-        let hash = self.engine.hash(&key);
-        match self.get_hashed(&key, hash, now, clock) {
-            Ok(Some(value)) => return Ok(value),
-            Ok(None) => {}
-            Err(_) => return Err(GetWithRefused::Lookup(key)),
-        }
-        self.count_load();
-        let value = init();
-        Ok(self.insert_made_hashed(Put { key, hash, value }, now, clock)?)
+        always_made(self.try_get_with(key, || Ok(init()), now, clock))
     }
 
     /// As `get_with`, for a maker that may decline: then nothing is inserted, and `None` is answered.
@@ -486,23 +479,14 @@ impl<
             V.is_clone key (key_hash S.BuildHasher S.Hasher.Hasher self.old.engine.hasher (K.hash_input key)) now
             self.old clock.old self.new clock.new (F.post init) result }
     {
-        let hash = self.engine.hash(&key);
-        match self.get_hashed(&key, hash, now, clock) {
-            Ok(Some(value)) => return Ok(Some(value)),
-            Ok(None) => {}
-            Err(_) => return Err(GetWithRefused::Lookup(key)),
-        }
-        self.count_load();
-        let Some(value) = init() else {
-            return Ok(None);
-        };
-        Ok(Some(self.insert_made_hashed(Put { key, hash, value }, now, clock)?))
+        if_made(self.try_get_with(key, || init().ok_or(()), now, clock))
     }
 
     /// As `get_with`, for a maker that may fail: then nothing is inserted, and its error is answered.
     ///
     /// # Errors
     /// The outer error as `get_with`; the inner one is the maker's.
+    #[inline(always)]
     pub fn try_get_with<E, F: FnOnce() -> Result<V, E>, C: Clock>(
         &mut self,
         key: K,
@@ -722,6 +706,25 @@ fn value_of<K: Drop, V>(
     match entry? {
         Some(entry) => Ok(Some(entry.into_value())),
         None => Ok(None),
+    }
+}
+
+// What a maker that may decline answers, of one that fails in place of declining.
+#[inline(always)]
+pub(crate) fn if_made<A: Drop, E>(answer: Result<Result<A, ()>, E>) -> Result<Option<A>, E>
+    ensures { result ≡ if_made answer }
+{
+    Ok(answer?.ok())
+}
+
+// What a maker that never fails answers.
+#[inline(always)]
+pub(crate) fn always_made<A, E>(answer: Result<Result<A, Infallible>, E>) -> Result<A, E>
+    ensures { answer ≡ without_error result }
+{
+    match answer? {
+        Ok(made) => Ok(made),
+        Err(never) => match never {},
     }
 }
 

@@ -8,7 +8,7 @@ ghost use Rattle.moka_drive.specs.Entries.{entry_value, IsFresh, OrInserts, OrIn
 ghost use Rattle.moka_parts.specs.Hashing.{key_hash};
 ghost use Rattle.moka_drive.specs.Synchronous.{Makes, meaning_of, InsertsMade, HandsOutOwn};
 
-use crate::cache::{Cache, Put};
+use crate::cache::{Cache, Put, always_made, if_made};
 use crate::error::GetWithRefused;
 use moka_parts::closures::{PredicateFn, Weigher};
 use moka_parts::error::{InsertError, InsertRefused};
@@ -98,15 +98,7 @@ impl<
             (key_hash S.BuildHasher S.Hasher.Hasher self.old.engine.hasher (K.hash_input key)) now
             self.old clock.old self.new clock.new (F.post init) result }
     {
-        let hash = self.engine().hash(&key);
-        match self.get_hashed(&key, hash, now, clock) {
-            Ok(Some(value)) => return Ok(found(key, value)),
-            Ok(None) => {}
-            Err(_) => return Err(GetWithRefused::Lookup(key)),
-        }
-        self.count_load();
-        let value = init();
-        Ok(self.insert_entry(Put { key, hash, value }, false, now, clock)?)
+        always_made(self.get_or_try_insert_with(key, || Ok(init()), now, clock))
     }
 
     /// As `get_or_insert_with`, for a maker that may decline: then nothing is inserted, and `None` is answered. moka:
@@ -131,17 +123,7 @@ impl<
             (key_hash S.BuildHasher S.Hasher.Hasher self.old.engine.hasher (K.hash_input key)) now
             self.old clock.old self.new clock.new (F.post init) result }
     {
-        let hash = self.engine().hash(&key);
-        match self.get_hashed(&key, hash, now, clock) {
-            Ok(Some(value)) => return Ok(Some(found(key, value))),
-            Ok(None) => {}
-            Err(_) => return Err(GetWithRefused::Lookup(key)),
-        }
-        self.count_load();
-        let Some(value) = init() else {
-            return Ok(None);
-        };
-        Ok(Some(self.insert_entry(Put { key, hash, value }, false, now, clock)?))
+        if_made(self.get_or_try_insert_with(key, || init().ok_or(()), now, clock))
     }
 
     /// As `get_or_insert_with`, for a maker that may fail: then nothing is inserted, and its error is answered. moka:
@@ -149,6 +131,7 @@ impl<
     ///
     /// # Errors
     /// The outer error as `get_or_insert_with`; the inner one is the maker's.
+    #[inline(always)]
     pub fn get_or_try_insert_with<E, F: FnOnce() -> Result<V, E>, C: Clock>(
         &mut self,
         key: K,

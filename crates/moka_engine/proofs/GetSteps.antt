@@ -1,5 +1,5 @@
 -- Look-ups as steps of the reference cache, and what always holds after them.
-use Rattle.std.proofs.Common.{◌≡◌, refl, ℕ, Bool, true, false, List, [], ◌∷◌, ◌++◌, length, Option, Some, None, option_map, Result, Ok, Err, ap, sym, subst, ◌∙◌, arith, if◌then◌else◌, MatchBool}
+use Rattle.std.proofs.Common.{◌≡◌, refl, ℕ, Bool, true, false, List, [], ◌∷◌, ◌++◌, length, Option, Some, None, option_map, Result, Ok, Err, ap, sym, subst, ◌∙◌, if◌then◌else◌}
 use Rattle.std.specs.Prelude.{nat_lt}
 use Rattle.std.specs.Cmp.{IsEquivalence}
 use Rattle.std.specs.FinMap.{get, insert}
@@ -10,7 +10,7 @@ use Rattle.moka_parts.specs.declared.policy.Instant.{Instant}
 use Rattle.moka_parts.specs.declared.records.ReadOperation.{ReadOperation}
 use Rattle.moka_parts.specs.declared.records.ReadOperation.TheVariants.{Hit, Miss}
 use Rattle.moka_parts.specs.declared.records.Record.{Record}
-use Rattle.moka_parts.specs.Calls.{no_events, queue_length, Unchanged, GetsAt, RecordsRead, queueing, IsMissed, IsHit, answer_at, hit_record, after_hit, hit_at, hit_operation}
+use Rattle.moka_parts.specs.Calls.{no_events, queue_length, GetsAt, RecordsRead, queueing, IsMissed, IsHit, answer_at, hit_record, after_hit, hit_at, hit_operation}
 use Rattle.moka_parts.specs.Expiry.{is_renewal, renewed, answer_to_hit}
 use Rattle.moka_parts.specs.Housekeeping.{is_due}
 use Rattle.moka_parts.specs.Listed.{ListedRun}
@@ -26,9 +26,9 @@ use Rattle.moka_parts.proofs.Maps.{get_inserted}
 use Rattle.moka_parts.proofs.StepsKeep.{hit_valid, valid_with}
 use Rattle.moka_store.specs.declared.store.Handle.{Handle}
 use Rattle.moka_store.specs.Store.{Kept}
-use Rattle.moka_inner.specs.Interior.{Interior, IsLocated}
+use Rattle.moka_inner.specs.Interior.{Interior}
 use Rattle.moka_engine.specs.BaseCache.{IsStocked, IsWhole, expirations_of, expiring_by}
-use Rattle.moka_engine.specs.Looks.{IsFound, Touches, entry_at}
+use Rattle.moka_engine.specs.Looks.{IsFound, LooksUp, Touches, entry_at}
 use Rattle.moka_engine.specs.Makes.{Takes}
 use Rattle.moka_engine.proofs.EngineSteps.{with_inner, cache_with, order_and_hasher, cache_changed, befalls-nothing, befalls-inside, unexpiring-inserted, cache-inner, there-inside, number-inside, own-inside}
 use Rattle.moka_engine.proofs.Stocked.{stocked-touched, stays-unrenewed, same_duration}
@@ -90,15 +90,6 @@ module _ {K V X L P W S : Type 0} {eq : K → K → Bool} {l : Option L} {s : St
   pub operation_noted : Hit n r.hash is_renewed ≡ hit_operation read s r now
   operation_noted = operation_is read s r now at expires is_renewed noted.touches n number
 
-  -- the record is located
-  pub located-read : (place : ℕ) → get i.kept.places n ≡ Some place → IsLocated j.kept.places j.next_number n place
-  located-read place placed =
-      let given = (number-inside h.cache i inside n r noted.there).1 in
-      let next = ap (λ (t : State K V X P W). t.next_number) inside in
-      let next_so = ap (λ (x : Interior K V S). x.next_number) noted.rest in
-      let places = ap (λ (k : Kept K V S). get k.places n) noted.kept in
-      record { given = omega arith; at = λ p at. cc }
-
   module _ (laws : IsEquivalence eq) where
     own : record_of_key eq s.records r.key ≡ Some r
     own = own-inside h.cache i inside laws n r noted.there
@@ -136,13 +127,9 @@ whole-queued {eq = eq} {l = l} {s = s} {read = read} i h inside operation j step
 
 module _ {K V X P W : Type 0} (says : P → K → V → Bool → Type 0) (read : X → K → V → ℕ → Option ℕ → ℕ → Option ℕ) (sought : Records K V → Option (Record K V)) (hash : ℕ) (need_key ignored : Bool) (now : ℕ)
     (Runs : State K V X P W → Terms → Course → List (Notice K V) → State K V X P W → Type 0) (s : State K V X P W) where
-  -- a get that records, of the record sought
-  abbrev LooksUp : Result (Option (Entry K V)) OutOfMemory → Events K V → State K V X P W → Type 0
-  LooksUp a e t = MatchBool (is_disabled s.capacity) ((a ≡ Ok None) × Unchanged s e t) (GetsAt says read Runs s (sought s.records) hash need_key ignored now a e t)
-
   module _ (enabled : is_disabled s.capacity ≡ false) where
     -- nothing is found that is visible
-    missed : ((r : Record K V) → sought s.records ≡ Some r → IsMissed says s ignored r now) → (e : Events K V) (t : State K V X P W) → RecordsRead Runs s now (Miss hash) e t → LooksUp (Ok None) e t
+    missed : ((r : Record K V) → sought s.records ≡ Some r → IsMissed says s ignored r now) → (e : Events K V) (t : State K V X P W) → RecordsRead Runs s now (Miss hash) e t → LooksUp says read sought hash need_key ignored now Runs s (Ok None) e t
     missed hidden e t recorded = rw enabled (at (sought s.records) refl)
       where
         at : (o : Option (Record K V)) → sought s.records ≡ o → GetsAt says read Runs s o hash need_key ignored now (Ok None) e t
@@ -151,11 +138,11 @@ module _ {K V X P W : Type 0} (says : P → K → V → Bool → Type 0) (read :
 
     module _ (r : Record K V) (found : sought s.records ≡ Some r) (seen : IsHit says s ignored r now) where
       -- memory for a clone is refused
-      refused : (error : OutOfMemory) → LooksUp (Err error) no_events s
+      refused : (error : OutOfMemory) → LooksUp says read sought hash need_key ignored now Runs s (Err error) no_events s
       refused error = rw (enabled, found) (seen, (refl, refl))
 
       -- a record is found that is visible
-      hit : (e : Events K V) (t : State K V X P W) → RecordsRead Runs (after_hit read s r now) (hit_at read s r now) (hit_operation read s r now) e t → LooksUp (Ok (Some (entry_at need_key r))) e t
+      hit : (e : Events K V) (t : State K V X P W) → RecordsRead Runs (after_hit read s r now) (hit_at read s r now) (hit_operation read s r now) e t → LooksUp says read sought hash need_key ignored now Runs s (Ok (Some (entry_at need_key r))) e t
       hit e t recorded = rw (enabled, found) (seen, refl, refl, recorded)
 
 -- ---- what a look-up returns

@@ -1,18 +1,20 @@
 -- Look-ups that record nothing as steps of the reference cache.
-use Rattle.std.proofs.Common.{◌≡◌, refl, ℕ, Bool, true, false, Option, Some, None, Result, Ok, Err, ap, sym, subst}
+use Rattle.std.proofs.Common.{◌≡◌, refl, ℕ, Bool, true, false, true≢false, inl, inr, Option, Some, None, is_some, Result, Ok, Err, ap, sym, subst, ◌∙◌}
 use Rattle.moka_parts.specs.declared.error.OutOfMemory.{OutOfMemory}
 use Rattle.moka_parts.specs.declared.notification.RemovalCause.{RemovalCause}
 use Rattle.moka_parts.specs.declared.policy.Instant.{Instant}
 use Rattle.moka_parts.specs.declared.records.Record.{Record}
-use Rattle.moka_parts.specs.Calls.{no_events, IsHit, IsMissed, PeeksAt, PeekStep, after_hit}
-use Rattle.moka_parts.specs.Records.{record_of_key}
+use Rattle.moka_parts.specs.Calls.{no_events, IsHit, IsMissed, PeeksAt, PeekStep, ScansAt, after_hit}
+use Rattle.moka_parts.specs.Records.{Records, record_of_key}
 use Rattle.moka_parts.specs.Runs.{Engine, Befalls}
 use Rattle.moka_parts.specs.State.{State, is_disabled}
+use Rattle.moka_parts.specs.Visibility.{IsHidden, IsShown}
 use Rattle.moka_parts.proofs.CallsKeep.{found_enabled}
 use Rattle.moka_store.specs.declared.store.Handle.{Handle}
+use Rattle.moka_store.specs.Store.{Kept}
 use Rattle.moka_inner.specs.Interior.{Interior}
 use Rattle.moka_engine.specs.BaseCache.{IsWhole, expirations_of}
-use Rattle.moka_engine.specs.Looks.{IsFound}
+use Rattle.moka_engine.specs.Looks.{Finds, IsFound}
 use Rattle.moka_engine.proofs.EngineSteps.{with_inner, cache_with, order_and_hasher, befalls-nothing, befalls-inside, key-inside}
 use Rattle.moka_engine.proofs.GetSteps.{IsNoted, record_read}
 
@@ -60,3 +62,43 @@ module _ {K V S X L P W : Type 0} (says : P → K → V → Bool → Type 0) (re
     -- of what cannot be cloned
     pub peek_refused : (error : OutOfMemory) → Peeks now (Err error) now
     peek_refused error = subst (λ c. Peeks c (Err error) c) is (rw (enabled, found) (seen, refl), befalls-nothing tells old)
+
+-- ---- looks that change nothing
+
+module _ {K V S X L P W : Type 0} (says : P → K → V → Bool → Type 0) {old now : Engine K V S X L P W} (is : old ≡ now) (kept : Kept K V S) (sought : Records K V → Option (Record K V)) (moment : ℕ) where
+  -- what is found of the record sought
+  abbrev FindsIn : Option (Handle × Record K V) → Type 0
+  FindsIn found = Finds kept (expirations_of old.state.settings) old.state.invalid_before says old.state.predicates (sought old.state.records) false moment found
+
+  abbrev Scans : Engine K V S X L P W → Result (Option V) OutOfMemory → Type 0
+  Scans c a = ScansAt says c.state (sought c.state.records) moment a
+
+  -- what is not found is hidden
+  hidden_there : FindsIn None → (r : Record K V) → sought old.state.records ≡ Some r → IsHidden says old.state r moment
+  hidden_there hidden r there = elim (hidden r there) [
+    | inl never ↦ absurd (true≢false (sym never))
+    | inr is ↦ is
+  ]
+
+  pub scan_misses : FindsIn None → Scans now (Ok None)
+  scan_misses hidden = subst (λ c. Scans c (Ok None)) is (at (sought old.state.records) refl)
+    where
+      at : (o : Option (Record K V)) → sought old.state.records ≡ o → ScansAt says old.state o moment (Ok None)
+      at None found = refl
+      at (Some r) found = hidden_there hidden r found
+
+  module _ (handle : Handle) (r : Record K V) (at : FindsIn (Some (handle, r))) where
+    pub scan_hits : Scans now (Ok (Some r.value))
+    scan_hits = subst (λ c. Scans c (Ok (Some r.value))) is (rw (at.found) ((at.shown, at.uncovered), refl))
+
+    pub scan_refused : (error : OutOfMemory) → Scans now (Err error)
+    scan_refused error = subst (λ c. Scans c (Err error)) is (rw (at.found) (at.shown, at.uncovered))
+
+  -- whether there is anything visible
+  pub shows : (found : Option (Handle × Record K V)) → FindsIn found → IsShown says now.state (sought now.state.records) moment (is_some found)
+  shows found finds = subst (λ (c : Engine K V S X L P W). IsShown says c.state (sought c.state.records) moment (is_some found)) is (at found finds (sought old.state.records) refl)
+    where
+      at : (found : Option (Handle × Record K V)) → FindsIn found → (o : Option (Record K V)) → sought old.state.records ≡ o → IsShown says old.state o moment (is_some found)
+      at None hidden None there = refl
+      at None hidden (Some r) there = hidden_there hidden r there
+      at (Some (handle, r)) seen o there = rw (sym there ∙ seen.found) (seen.shown, seen.uncovered)

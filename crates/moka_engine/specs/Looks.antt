@@ -1,12 +1,17 @@
 -- What a look-up finds, and what a hit makes of a record.
-use Rattle.std.specs.Prelude.{◌≡◌, ℕ, Bool, true, false, List, Option, Some, None, option_map, if◌then◌else◌, ◌⊎◌}
+use Rattle.std.specs.Prelude.{◌≡◌, ℕ, Bool, true, false, List, Option, Some, None, Result, Ok, MatchBool, option_map, if◌then◌else◌, ◌⊎◌}
 use Rattle.std.specs.FinMap.{get}
 use Rattle.moka_parts.specs.declared.calls.Entry.{Entry}
+use Rattle.moka_parts.specs.declared.error.OutOfMemory.{OutOfMemory}
 use Rattle.moka_parts.specs.declared.policy.Instant.{Instant}
 use Rattle.moka_parts.specs.declared.records.Record.{Record}
 use Rattle.moka_parts.specs.declared.records.Registered.{Registered}
+use Rattle.moka_parts.specs.Calls.{GetsAt, Unchanged}
 use Rattle.moka_parts.specs.Expiry.{is_renewal, renewed, moment_of_hit, answer_to_hit}
+use Rattle.moka_parts.specs.Maintenance.{Terms, Course}
 use Rattle.moka_parts.specs.Policy.{Expirations}
+use Rattle.moka_parts.specs.Records.{Notice, Records}
+use Rattle.moka_parts.specs.State.{State, Events, is_disabled}
 use Rattle.moka_parts.specs.Visibility.{has_lapsed, SomeCovers, NoneCovers}
 use Rattle.moka_store.specs.declared.store.Handle.{Handle}
 use Rattle.moka_store.specs.Store.{Kept, IsHandle}
@@ -44,3 +49,12 @@ pub record Touches {K V X : Type 0} (read : X → K → V → ℕ → Option ℕ
   pub moment : at ≡ moment_of_hit x.expiry r now
   pub expiry : expires ≡ renewed (expiring_by x) r at (answer_to_hit read (expiring_by x) x.expiry r at)
   pub renewal : is_renewed ≡ is_renewal (expiring_by x) r at (answer_to_hit read (expiring_by x) x.expiry r at)
+
+-- what a look-up that is recorded answers, and what it does, where the key has the record sought: in a disabled cache
+-- nothing, and else what a get does whose test answered so
+module _ {K V X P W : Type 0} (says : P → K → V → Bool → Type 0) (read : X → K → V → ℕ → Option ℕ → ℕ → Option ℕ)
+    (sought : Records K V → Option (Record K V)) (hash : ℕ) (need_key ignored : Bool) (now : ℕ)
+    (Runs : State K V X P W → Terms → Course → List (Notice K V) → State K V X P W → Type 0) (s : State K V X P W) where
+  abbrev pub LooksUp : Result (Option (Entry K V)) OutOfMemory → Events K V → State K V X P W → Type 0
+  LooksUp a e t = MatchBool (is_disabled s.capacity) ((a ≡ Ok None) × Unchanged s e t)
+      (GetsAt says read Runs s (sought s.records) hash need_key ignored now a e t)

@@ -6,6 +6,7 @@ ghost use Rattle.moka_parts.specs.Hashing.{key_hash};
 ghost use Rattle.moka_parts.specs.Calls.{entry_of, no_events, only_notices, CapacityStep, InsertStep, SendStep, RemoveStep, ContainsStep, KeysStep};
 ghost use Rattle.moka_parts.specs.Copies.{HandsOut, IsCopy, IsEntryCopy, NotifiesOfCopy};
 ghost use Rattle.moka_parts.specs.Housekeeper.{new_keeper};
+ghost use Rattle.moka_parts.specs.KeyTests.{ContainsByStep, RemoveByStep};
 ghost use Rattle.moka_parts.specs.Order.{IsWriteList};
 ghost use Rattle.moka_parts.specs.Records.{Notice, record_of_key};
 ghost use Rattle.moka_parts.specs.Runs.{Befalls};
@@ -15,10 +16,10 @@ ghost use Rattle.moka_parts.specs.Surroundings.{Leads};
 ghost use Rattle.moka_store.specs.Hashing.{IsIndexHash};
 ghost use Rattle.moka_parts.specs.declared.calls.Call.TheVariants as call;
 ghost use Rattle.moka_parts.specs.declared.calls.Reply.TheVariants as reply;
-ghost use Rattle.moka_parts.specs.declared.records.ReadOperation.TheVariants.{Hit};
 ghost use Rattle.moka_engine.specs.BaseCache.{IsServed, empty_engine, expirations_of, settings_of};
 ghost use Rattle.moka_engine.specs.Makes.{Makes, meaning};
 
+use self::by_key_test::SameKey;
 use self::gets::Moments;
 use moka_inner::{Hashes, Inner, Layout};
 use moka_parts::calls::{Entry, KvEntry, Ticket};
@@ -26,9 +27,10 @@ use moka_parts::closures::{NoTest, PredicateFn, Weigher};
 use moka_parts::error::{CapacityError, InsertRefused, OutOfMemory, SendError};
 use moka_parts::housekeeper::{Clock, Housekeeper, HousekeeperConfig};
 use moka_parts::invalidator::Invalidator;
+use moka_parts::key_test::KeyTest;
 use moka_parts::notification::{Listener, RemovalNotifier};
 use moka_parts::policy::{EvictionPolicy, ExpirationPolicy, Expiry, Instant, Policy};
-use moka_parts::records::{ReadOperation, Record};
+use moka_parts::records::Record;
 use moka_store::{IndexHash, Update};
 use std::alloc::Global;
 use std::hash::{BuildHasher, Hash};
@@ -53,10 +55,11 @@ pub use snapshot::{Snapshot, SnapshotEntry};
 // How many segments the map has.
 const SEGMENTS: usize = 1;
 
-// What a get looks up: a key with its hashes, whether its own key is to be cloned, and when.
+// What a get looks up: what only its key passes, with the key's hashes, whether the record's own key is to be cloned, and
+// when.
 #[derive(Drop)]
-struct Look<'a, K> {
-    key: &'a K,
+struct Look<'a, T> {
+    test: &'a T,
     hashes: Hashes,
     need_key: bool,
     now: Instant,
@@ -68,25 +71,6 @@ struct ReadHit {
     number: u64,
     hash: u64,
     renewed: bool,
-}
-
-impl ReadHit {
-    // The read to queue.
-    #[inline(always)]
-    fn operation(self) -> ReadOperation
-        ensures { result ≡ Hit self.number self.hash self.renewed }
-    {
-        let ReadHit {
-            number,
-            hash,
-            renewed,
-        } = self;
-        ReadOperation::Hit {
-            number,
-            hash,
-            renewed,
-        }
-    }
 }
 
 /// A cache. moka: `sync::base_cache::BaseCache`.
@@ -499,7 +483,7 @@ impl<
         ensures events { Befalls L.tells no_events self.old self.new }
     {
         let own = self.inner.index_hash(key);
-        self.remove_hashed(key, own)
+        self.remove_hashed(&SameKey(key), own)
     }
 
     /// As `remove_entry`, given the key's hash by the cache's own hasher (`hash`), so the key is not hashed again.
@@ -514,18 +498,23 @@ impl<
         ensures step { RemoveStep K.eq self.old.state key.now result self.new.state }
         ensures events { Befalls L.tells no_events self.old self.new }
     {
-        self.remove_hashed(key, IndexHash::of(hash))
+        self.remove_hashed(&SameKey(key), IndexHash::of(hash))
     }
 
-    // A removal of a key with its hash in the map.
-    fn remove_hashed(&mut self, key: &K, own: IndexHash) -> Option<(KvEntry<K, V>, Ticket)>
+    // A removal of the key that passes, with its hash in the map.
+    fn remove_hashed<T: KeyTest<K>>(
+        &mut self,
+        test: &T,
+        own: IndexHash,
+    ) -> Option<(KvEntry<K, V>, Ticket)>
     where
         K: Drop,
-        requires own { IsIndexHash S.BuildHasher S.Hasher.Hasher self.old.hasher (K.hash_input key.now) own }
-        ensures step { RemoveStep K.eq self.old.state key.now result self.new.state }
+        requires own { (k : K) → T.passes test.now k ≡ true
+            → IsIndexHash S.BuildHasher S.Hasher.Hasher self.old.hasher (K.hash_input k) own }
+        ensures step { RemoveByStep (T.passes test.now) self.old.state result self.new.state }
         ensures events { Befalls L.tells no_events self.old self.new }
     {
-        let (handle, _) = self.inner.find(key, own)?;
+        let (handle, _) = self.inner.find_by(test, own)?;
         let (record, ticket) = self.inner.remove(handle, own);
         Some((entry_of_record(record), ticket))
     }
@@ -572,7 +561,7 @@ impl<
         ensures { ContainsStep P.says K.eq self.now.state key.now now.0 result }
     {
         let own = self.inner.index_hash(key);
-        self.contains_hashed(key, own, now)
+        self.contains_hashed(&SameKey(key), own, now)
     }
 
     /// As `contains_key_with_hash`, given the key's hash by the cache's own hasher (`hash`), so the key is not hashed
@@ -581,16 +570,17 @@ impl<
         requires own { hash ≡ key_hash S.BuildHasher S.Hasher.Hasher self.now.hasher (K.hash_input key.now) }
         ensures { ContainsStep P.says K.eq self.now.state key.now now.0 result }
     {
-        self.contains_hashed(key, IndexHash::of(hash), now)
+        self.contains_hashed(&SameKey(key), IndexHash::of(hash), now)
     }
 
-    // The same with the key's hash in the map.
-    fn contains_hashed(&self, key: &K, own: IndexHash, now: Instant) -> bool
-        requires own { IsIndexHash S.BuildHasher S.Hasher.Hasher self.now.hasher (K.hash_input key.now) own }
-        ensures { ContainsStep P.says K.eq self.now.state key.now now.0 result }
+    // The same of the key that passes, with its hash in the map.
+    fn contains_hashed<T: KeyTest<K>>(&self, test: &T, own: IndexHash, now: Instant) -> bool
+        requires own { (k : K) → T.passes test.now k ≡ true
+            → IsIndexHash S.BuildHasher S.Hasher.Hasher self.now.hasher (K.hash_input k) own }
+        ensures { ContainsByStep P.says (T.passes test.now) self.now.state now.0 result }
     {
         let moments = self.moments(now);
-        gets::find_shown(&self.inner, &moments, &self.invalidator, (key, own)).is_some()
+        gets::find_shown(&self.inner, &moments, &self.invalidator, (test, own)).is_some()
     }
 
     // What hides records at the moment `now`, but for predicates.
@@ -666,7 +656,7 @@ impl<
     {
         let own = self.inner.index_hash(key);
         let look = Look {
-            key,
+            test: &SameKey(key),
             hashes: Hashes { hash, own },
             need_key,
             now,
@@ -697,14 +687,7 @@ impl<
             (call.Get key.now hash need_key now)
             (reply.Get own) self.old self.new (λ e. Leads C.reads clock.old e.readings clock.new)) result }
     {
-        let own = IndexHash::of(hash);
-        let look = Look {
-            key,
-            hashes: Hashes { hash, own },
-            need_key,
-            now,
-        };
-        self.get_hashed(look, &mut NoTest, clock)
+        self.get_by(&SameKey(key), hash, need_key, now, clock)
     }
 }
 

@@ -253,21 +253,23 @@ module _ {K V S : Type 0} (kept after : Kept K V S) (out handed : Pending Placed
       }
 
 module _ {K V S : Type 0} (kept : Kept K V S) (out left : Pending PlacedWrite) (writes : Buffer QueuedWrite) (reads : Buffer QueuedRead) (t n : ℕ) (h : IsInner kept out writes reads t n) where
+  -- there is more room
+  pub inner-roomier : (after : Kept K V S) → after.records ≡ kept.records → after.places ≡ kept.places → left.items ≡ out.items → out.room ≤ left.room → IsInner after left writes reads t n
+  inner-roomier after records places items room = record {
+    located = rw (places, items) h.located;
+    used = rw (places, records, items) h.used;
+    ticketed = rw items h.ticketed;
+    generations = rw records h.generations;
+    numbers = h.numbers;
+    tickets = rw records h.tickets;
+    removals = rw records (let e = h.removals in omega arith);
+    write_queue = h.write_queue;
+    read_queue = h.read_queue;
+  }
+
   -- an operation that is not there is taken
   pub inner-unsent : (ticket : ℕ) → get out.items ticket ≡ None → left.items ≡ remove out.items ticket → out.room ≤ left.room → IsInner kept left writes reads t n
-  inner-unsent ticket none items room =
-      let same : left.items ≡ out.items = items ∙ remove_absent out.items ticket none in
-      record {
-        located = rw same h.located;
-        used = rw same h.used;
-        ticketed = rw same h.ticketed;
-        generations = h.generations;
-        numbers = h.numbers;
-        tickets = h.tickets;
-        removals = (let e = h.removals in omega arith);
-        write_queue = h.write_queue;
-        read_queue = h.read_queue;
-      }
+  inner-unsent ticket none items room = inner-roomier kept refl refl (items ∙ remove_absent out.items ticket none) room
 
   -- an operation goes from those handed out to the back of the queue
   pub inner-sent : (ticket : ℕ) (w : PlacedWrite) → get out.items ticket ≡ Some w → left.items ≡ remove out.items ticket → out.room ≤ left.room → length writes.items < writes.capacity → IsInner kept left (buffer (writes.items ++ record { ticket = ticket; write = w } ∷ []) writes.capacity) reads t n

@@ -210,11 +210,10 @@ impl<K: Eq + Hash, V, S: BuildHasher> Inner<K, V, S> {
         if !self.has_tickets(1) {
             return Err(InsertError::NumbersUsedUp);
         }
-        let records = self.store.record_count();
-        if self.store.reserve(1).is_err() || self.outstanding.reserve(records + 2).is_err() {
+        if self.store.reserve(1).is_err() {
             return Err(InsertError::OutOfMemory);
         }
-        Ok(())
+        self.reserve_operations(2)
     }
 
     /// Makes room for one more operation, and changes nothing where there is room.
@@ -231,8 +230,21 @@ impl<K: Eq + Hash, V, S: BuildHasher> Inner<K, V, S> {
         if !self.has_tickets(0) {
             return Err(InsertError::NumbersUsedUp);
         }
+        self.reserve_operations(1)
+    }
+
+    // Makes room for so many more operations, where the tickets last for them.
+    #[inline(always)]
+    fn reserve_operations(&mut self, additional: usize) -> Result<(), InsertError>
+        requires tickets { self.old.next_ticket + finite.len self.old.kept.records + additional ≤ 2 ^ 64 }
+        ensures room { OnOk result (additional ≤ self.new.operation_room) }
+        ensures succeeds { additional ≤ self.old.operation_room → IsOk result }
+        ensures enough { additional ≤ self.old.operation_room → self.new ≡ self.old }
+        ensures tickets_last { result ≡ Err NumbersUsedUp → ⊥ }
+        ensures rest { self.new ≡ record self.old { operation_room = self.new.operation_room } }
+    {
         let records = self.store.record_count();
-        if self.outstanding.reserve(records + 1).is_err() {
+        if self.outstanding.reserve(records + additional).is_err() {
             return Err(InsertError::OutOfMemory);
         }
         Ok(())
@@ -389,28 +401,6 @@ impl<K: Eq + Hash, V, S: BuildHasher> Inner<K, V, S> {
         // A row's place has 32 bits.
         let place = (place % MOST_PLACES) as u32;
         let _full = self.reads.try_push_back(QueuedRead::new(read, place));
-    }
-
-    /// Queues a hit of the record of this number, which was the key's and may have left the map since. Its place is
-    /// looked up by the key.
-    #[cold]
-    pub fn queue_hit(&mut self, key: &K, number: u64, hash: u64, renewed: bool)
-        requires { IsReadNumber K.eq self.old.kept.records self.old.outstanding self.old.writes
-            self.old.next_number key.now number }
-        ensures { self.new ≡ record self.old {
-          reads = if nat_lt (length self.old.reads) queue_length
-              then self.old.reads ++ Hit number hash renewed ∷ [] else self.old.reads;
-        } }
-    {
-        let read = ReadOperation::Hit {
-            number,
-            hash,
-            renewed,
-        };
-        match self.store.find_by_key(key, self.index_hash(key)) {
-            Some((Handle { place, .. }, _)) => self.queue_read(place, read),
-            None => self.queue_read(0, read),
-        }
     }
 
     /// Applies all queued reads, and then all queued writes in order. Then the sketch comes on where it is due.

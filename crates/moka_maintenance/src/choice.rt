@@ -98,10 +98,13 @@ fn frequency_of<K: Eq + Hash, V, S: BuildHasher>(
         (λ f. (is_settled store.now.records handle.number ≡ true) × ((counted : ℕ) →
         f ≡ frequency sketch.now (hash_of (contents_with sketch.now store.now) (member handle.number counted)))) }
 {
-    match store.find(handle) {
-        Some(found) if found.is_settled() => Some(sketch.frequency(found.hash())),
-        _ => None,
+    let Some(found) = store.find(handle) else {
+        return None;
+    };
+    if !found.is_settled() {
+        return None;
     }
+    Some(sketch.frequency(found.hash()))
 }
 
 /// Evicts the first members, so many of them, to make room.

@@ -39,8 +39,8 @@ module _ {K V S X L P W : Type 0} (routing : Routing S) (whole : Option ℕ) (is
       ]
 
   -- all of them
-  pub is_new : (xs : List (Synchronous K V S X L P W)) (c : Segmented K V S X L P W) → c ≡ record { routing = routing; segments = xs } → 0 < routing.count → length xs ≡ routing.count → AreBuilt routing whole is_clone now Made xs → IsNew routing whole is_clone now Made c
-  is_new xs c is some as_many built = subst (IsNew routing whole is_clone now Made) (sym is) (record { routing_is = refl; as_many = as_many; built = built; sums = sums xs some as_many built })
+  pub is_new : (xs : List (Synchronous K V S X L P W)) → 0 < routing.count → length xs ≡ routing.count → AreBuilt routing whole is_clone now Made xs → IsNew routing whole is_clone now Made (record { routing = routing; segments = xs })
+  is_new xs some as_many built = record { routing_is = refl; as_many = as_many; built = built; sums = sums xs some as_many built }
 
   -- a new cache is new by the routing that it has
   pub new_by_its_own : (c : Segmented K V S X L P W) (count : ℕ) → routing.count ≡ count → IsNew routing whole is_clone now Made c → (c.routing.count ≡ count) × IsNew c.routing whole is_clone now Made c

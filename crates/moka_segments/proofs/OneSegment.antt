@@ -1,14 +1,18 @@
 -- A step of one segment is a step of the cache.
-use Rattle.std.proofs.Common.{◌≡◌, ℕ, ◌<◌, List, length, slice_index_or, slice_set, refl, subst}
+use Rattle.std.proofs.Common.{◌≡◌, ℕ, ◌<◌, List, length, slice_index_or, slice_set, refl, subst, sym, ◌∙◌}
 use Rattle.std.proofs.lemmas.List.Elements.{at_read}
 use Rattle.moka_drive.specs.Synchronous.{Synchronous}
 use Rattle.moka_segments.specs.Routing.{Routing}
 use Rattle.moka_segments.specs.Segmented.{Segmented, IsAt, Steps, Holds}
 
+-- an index of the router is one of as many segments
+pub within_all : {index count long len : ℕ} → len ≡ long → long ≡ count → index < count → index < len
+within_all {index = index} len_is as_many within = subst (λ n. index < n) (sym (len_is ∙ as_many)) within
+
 pub is_at : {A : Type 0} (xs : List A) (index : ℕ) (x : A) → index < length xs → x ≡ slice_index_or xs index x → IsAt xs index x
 is_at xs index x within is = record { within = within; is = at_read xs (λ y. y ≡ x) index x within is refl }
 
-module _ {K V S X L P W : Type 0} (place : Routing S → ℕ) (routing : Routing S) (segments : List (Synchronous K V S X L P W)) (s : Segmented K V S X L P W) (view_is : record { routing = routing; segments = segments } ≡ s) (index : ℕ) (is_place : index ≡ place routing) (within : index < length segments) where
+module _ {K V S X L P W : Type 0} (place : Routing S → ℕ) {routing : Routing S} {segments : List (Synchronous K V S X L P W)} {s : Segmented K V S X L P W} (view_is : record { routing = routing; segments = segments } ≡ s) {index : ℕ} (is_place : index ≡ place routing) (within : index < length segments) where
   pub steps_in : (Step : Synchronous K V S X L P W → Synchronous K V S X L P W → Type 0) (x y : Synchronous K V S X L P W) → x ≡ slice_index_or segments index x → Step x y → Steps (place s.routing) Step s (record { routing = routing; segments = slice_set segments index y })
   steps_in Step x y is step = subst (λ (t : Segmented K V S X L P W). Steps (place t.routing) Step t (record { routing = routing; segments = slice_set segments index y })) view_is
       (subst (λ i. Steps i Step (record { routing = routing; segments = segments }) (record { routing = routing; segments = slice_set segments index y })) is_place (record {

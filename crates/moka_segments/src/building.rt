@@ -42,15 +42,31 @@ impl<
         ensures new { IfOk result (λ c. IsNew router max_capacity S.is_clone now.0 (F.post make) c) }
         ensures empty { IfOk result HoldNone }
     {
+        let segments = Self::build_segments(&router, max_capacity, &make, alloc, now)?;
+        Ok(SegmentedCache { router, segments })
+    }
+
+    // The segments, one after the other.
+    fn build_segments<F: Fn(u32) -> CacheConfig<X, L, P, W>>(
+        router: &Router<S>,
+        max_capacity: Option<u64>,
+        make: &F,
+        alloc: Global,
+        now: Instant,
+    ) -> Result<Vec<Cache<K, V, X, L, P, W, S>>, OutOfMemory>
+        requires { F.IsAlwaysCallable make.now }
+        ensures { IfOk result (λ segments. IsNew router.now max_capacity S.is_clone now.0 (F.post make.now)
+            (record { routing = router.now; segments = segments.items })) }
+    {
         let mut segments = Vec::new(alloc);
         for index in 0..router.count() {
-            let config = with_share(&router, make(index), max_capacity, index);
-            let segment = Self::build_segment(&router, config, alloc, now)?;
+            let config = with_share(router, make(index), max_capacity, index);
+            let segment = Self::build_segment(router, config, alloc, now)?;
             let Ok(()) = segments.push(segment) else {
                 return Err(OutOfMemory);
             };
         }
-        Ok(SegmentedCache::from_parts(router, segments))
+        Ok(segments)
     }
 
     // A segment with this configuration.

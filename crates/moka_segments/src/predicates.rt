@@ -1,5 +1,5 @@
 //! A predicate that every segment registers. moka: `sync::segment`, `invalidate_entries_if`.
-ghost use Rattle.std.specs.Prelude.{◌≡◌, ◌++◌, List, length};
+ghost use Rattle.std.specs.Prelude.{◌≡◌, ◌++◌, List};
 ghost use Rattle.uuid.specs.declared.Uuid.{Uuid};
 ghost use Rattle.moka_segments.specs.Registering.{AllRegister, ids_given, outcome};
 
@@ -67,7 +67,7 @@ impl<
             (outcome result) ids.old ids.new self.old.segments self.new.segments }
     {
         let mut done = Vec::new(*self.segments.allocator());
-        match Self::register_all(&mut self.segments, &make, now, ids, &mut done) {
+        match Self::register_each(&mut self.segments, &make, now, ids, &mut done) {
             Ok(()) => Ok(done),
             Err(refused) => Err(RegisterRefused { refused, done }),
         }
@@ -98,22 +98,5 @@ impl<
             Err(refused) => return Err(refused),
         }
         Self::register_each(rest, make, now, ids, done)
-    }
-
-    // The same of a whole vector.
-    fn register_all<F: Fn() -> P, I: IdSource>(
-        segments: &mut Vec<Cache<K, V, X, L, P, W, S>>,
-        make: &F,
-        now: Instant,
-        ids: &mut I,
-        done: &mut Vec<PredicateId>,
-    ) -> Result<(), PredicateRefused<P>>
-        requires { F.IsAlwaysCallable make.now }
-        ensures each { (given : List Uuid) × (done.new.items ≡ done.old.items ++ given)
-            × AllRegister L.tells I.gives (F.post make.now) now given result ids.old ids.new
-            segments.old.items segments.new.items }
-        ensures as_many { length segments.new.items ≡ length segments.old.items }
-    {
-        Self::register_each(segments, make, now, ids, done)
     }
 }

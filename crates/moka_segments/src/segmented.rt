@@ -29,7 +29,7 @@ pub struct SegmentedCache<
     W: Weigher<K, V> = NoWeigher,
     S: BuildHasher = DefaultHasher,
 > {
-    router: Router<S>,
+    pub(crate) router: Router<S>,
     pub(crate) segments: Vec<Cache<K, V, X, L, P, W, S>>,
 }
 
@@ -278,8 +278,7 @@ impl<
             self.old self.new }
     {
         let index = self.router.segment_of(&key);
-        let segment = &mut self.segments[index];
-        segment.get_with(key, init, now, clock)
+        self.segments[index].get_with(key, init, now, clock)
     }
 
     /// As `get_with`, for a maker that may decline: then nothing is inserted, and `None` is answered.
@@ -309,8 +308,7 @@ impl<
             self.old self.new }
     {
         let index = self.router.segment_of(&key);
-        let segment = &mut self.segments[index];
-        segment.optionally_get_with(key, init, now, clock)
+        self.segments[index].optionally_get_with(key, init, now, clock)
     }
 
     /// As `get_with`, for a maker that may fail: then nothing is inserted, and its error is answered.
@@ -340,7 +338,6 @@ impl<
             self.old self.new }
     {
         let index = self.router.segment_of(&key);
-        let segment = &mut self.segments[index];
-        segment.try_get_with(key, init, now, clock)
+        self.segments[index].try_get_with(key, init, now, clock)
     }
 }

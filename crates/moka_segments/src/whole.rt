@@ -1,5 +1,5 @@
 //! Calls that concern all segments, and the sums of what each tells.
-ghost use Rattle.std.specs.Prelude.{◌≡◌, length, option_copied};
+ghost use Rattle.std.specs.Prelude.{◌≡◌, option_copied};
 ghost use Rattle.std.specs.List.{AllZip};
 ghost use Rattle.moka_parts.specs.State.{limits_of};
 ghost use Rattle.moka_drive.specs.Synchronous.{meaning_of};
@@ -27,28 +27,44 @@ impl<
     pub fn entry_count(&self) -> u64
         ensures { result ≡ total (λ s. s.engine.state.count) self.now.segments }
     {
-        Self::entries_of(&self.segments)
+        let mut sum: u64 = 0;
+        for segment in &self.segments {
+            sum = sum.saturating_add(segment.entry_count());
+        }
+        sum
     }
 
     /// The weight that the last runs of maintenance counted, saturating.
     pub fn weighted_size(&self) -> u64
         ensures { result ≡ total (λ s. s.engine.state.weight) self.now.segments }
     {
-        Self::weight_of(&self.segments)
+        let mut sum: u64 = 0;
+        for segment in &self.segments {
+            sum = sum.saturating_add(segment.weighted_size());
+        }
+        sum
     }
 
     /// Hits, misses and loads of all segments since they were made, each saturating.
     pub fn stats(&self) -> Stats
         ensures { result ≡ total_stats self.now.segments }
     {
-        Self::stats_of(&self.segments)
+        let mut sum = Stats::new();
+        for segment in &self.segments {
+            sum = both_stats(sum, segment.stats());
+        }
+        sum
     }
 
     /// The sum of the segments' capacities, saturating; `None` if one of them has no bound.
     pub fn max_capacity(&self) -> Option<u64>
         ensures { result ≡ saturated (whole_capacity self.now.segments) }
     {
-        Self::capacity_of(&self.segments)
+        let mut sum = Some(0);
+        for segment in &self.segments {
+            sum = both(sum, segment.policy().max_capacity());
+        }
+        sum
     }
 
     /// The first segment's name, if it has one.
@@ -79,7 +95,7 @@ impl<
         ensures routing { self.new.routing ≡ self.old.routing }
         ensures each { AllZip (Hides L.tells now) self.old.segments self.new.segments }
     {
-        Self::hide_all(&mut self.segments, now);
+        Self::hide_each(&mut self.segments, now);
     }
 
     /// Runs maintenance of each segment in turn, without a time limit. The answer tells whether more is left of any.
@@ -96,51 +112,7 @@ impl<
             result clock.new self.old.segments self.new.segments }
         ensures within { IsWithinWhole (whole_capacity self.new.segments) self.new.segments }
     {
-        Self::run_all(&mut self.segments, now, clock)
-    }
-
-    // How many entries the last runs counted, saturating.
-    fn entries_of(segments: &[Cache<K, V, X, L, P, W, S>]) -> u64
-        ensures { result ≡ total (λ s. s.engine.state.count) segments.now }
-    {
-        let mut sum: u64 = 0;
-        for segment in segments {
-            sum = sum.saturating_add(segment.entry_count());
-        }
-        sum
-    }
-
-    // The weight that the last runs counted, saturating.
-    fn weight_of(segments: &[Cache<K, V, X, L, P, W, S>]) -> u64
-        ensures { result ≡ total (λ s. s.engine.state.weight) segments.now }
-    {
-        let mut sum: u64 = 0;
-        for segment in segments {
-            sum = sum.saturating_add(segment.weighted_size());
-        }
-        sum
-    }
-
-    // Hits, misses and loads, each saturating.
-    fn stats_of(segments: &[Cache<K, V, X, L, P, W, S>]) -> Stats
-        ensures { result ≡ total_stats segments.now }
-    {
-        let mut sum = Stats::new();
-        for segment in segments {
-            sum = both_stats(sum, segment.stats());
-        }
-        sum
-    }
-
-    // The sum of the capacities, saturating, if each has one.
-    fn capacity_of(segments: &[Cache<K, V, X, L, P, W, S>]) -> Option<u64>
-        ensures { result ≡ saturated (whole_capacity segments.now) }
-    {
-        let mut sum = Some(0);
-        for segment in segments {
-            sum = both(sum, segment.policy().max_capacity());
-        }
-        sum
+        Self::run_each(&mut self.segments, now, clock)
     }
 
     // Hides what was written or read before the moment, in each.
@@ -152,14 +124,6 @@ impl<
         };
         first.invalidate_all(now);
         Self::hide_each(rest, now);
-    }
-
-    // The same of a whole vector.
-    fn hide_all(segments: &mut Vec<Cache<K, V, X, L, P, W, S>>, now: Instant)
-        ensures each { AllZip (Hides L.tells now) segments.old.items segments.new.items }
-        ensures as_many { length segments.new.items ≡ length segments.old.items }
-    {
-        Self::hide_each(segments, now);
     }
 
     // Runs maintenance of each, and tells whether more is left of any.
@@ -181,23 +145,6 @@ impl<
         let more = first.run_pending_tasks(now, clock);
         let others = Self::run_each(rest, now, clock);
         more | others
-    }
-
-    // The same of a whole vector.
-    fn run_all<C: Clock>(
-        segments: &mut Vec<Cache<K, V, X, L, P, W, S>>,
-        now: Instant,
-        clock: &mut C,
-    ) -> bool
-    where
-        K: Drop,
-        V: Drop,
-        P: Drop,
-        ensures each { AllRan (meaning_of K.eq L.tells P.says W.weighs C.reads X.created X.read X.updated) now clock.old
-            result clock.new segments.old.items segments.new.items }
-        ensures as_many { length segments.new.items ≡ length segments.old.items }
-    {
-        Self::run_each(segments, now, clock)
     }
 }
 

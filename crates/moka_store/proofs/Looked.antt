@@ -1,5 +1,6 @@
 -- What a look-up finds at the place of a row.
-use Rattle.std.proofs.Common.{◌≡◌, ℕ, Bool, false, List, Option, Some, None, refl, sym, ap, ◌∙◌}
+use Rattle.std.proofs.Common.{◌≡◌, ℕ, Bool, true, false, List, Option, Some, None, IsSome, refl, sym, ap, ◌∙◌}
+use Rattle.std.proofs.lemmas.Bool.{false≢true}
 use Rattle.std.specs.Option.{option_map_or}
 use Rattle.moka_parts.specs.declared.records.Record.{Record}
 use Rattle.moka_store.specs.RecordTable.{Row, row_at, number_at, stored_at}
@@ -18,6 +19,11 @@ module _ {R : Type 0} (rows : List (Option (Row R))) (place number : ℕ) where
   live-row stored numbered has =
       let w = read-of (λ (row : Row R). row.stored) (row_at rows place) stored (sym has) in
       record { row = w.0; at_is = w.1; number_is = numbered ∙ ap (λ o. option_map_or (λ (row : Row R). row.number) o 0) w.1; stored_is = w.2 }
+
+-- only the key of a record passes
+pub stored_passes : {R : Type 0} (passes : R → Bool) (o : Option R) → option_map_or passes o false ≡ true → IsSome o
+stored_passes passes None passing = absurd (false≢true passing)
+stored_passes passes (Some r) passing = refl
 
 -- where the keys equal to this one pass, a place passes that has it
 pub passes-as_key : {K V : Type 0} (eq : K → K → Bool) (passes : K → Bool) (key : K) → ((y : K) → passes y ≡ eq key y) → (rows : List (Option (Row (Record K V)))) (place : ℕ) → passes_at passes rows place ≡ has_key_at eq rows key place

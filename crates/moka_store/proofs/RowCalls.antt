@@ -1,7 +1,9 @@
 -- What a change of one entry makes of the rows.
-use Rattle.std.proofs.Common.{◌≡◌, ◌≢◌, ℕ, ◌<◌, List, [], ◌∷◌, ◌++◌, map, length, get_or, set, Some, None, is_some, count_by, slice_get, sym, ap, ◌∙◌, arith}
-use Rattle.std.proofs.lemmas.List.{map-set, map_push, length-map, length-set, get_or-map, get_or-set_same, get_or-set_other, get_or_push}
+use Rattle.std.proofs.Common.{◌≡◌, ◌≢◌, ℕ, ◌<◌, List, [], ◌∷◌, ◌++◌, map, length, get_or, set, Option, Bor, option_copied, Some, None, is_some, count_by, slice_get, sym, ap, ◌∙◌, arith}
+use Rattle.std.proofs.lemmas.List.{map-set, map_push, length-map, length-set, get_or-map, get_or-set_same, get_or-set_other, get_or_past, get_or_push}
 use Rattle.std.proofs.lemmas.Option.{slice_get_within, get_or_from_slice_get}
+use Rattle.std.specs.Option.{option_and_then}
+use Rattle.std.specs.Slice.{IsItemAt}
 use Rattle.slab.specs.declared.Entry.{Entry}
 use Rattle.slab.specs.declared.Entry.TheVariants.{Vacant, Occupied}
 use Rattle.slab.specs.Entry.{value_of, IsSound}
@@ -26,6 +28,11 @@ module _ {R : Type 0} (es : List (Entry (Row R))) (place : ℕ) where
   -- which a read of that place gives
   pub read_there : (row : Row R) (e : Entry (Row R)) → row_at (map value_of es) place ≡ Some row → e ≡ get_or es place e → e ≡ Occupied row
   read_there row e at read = read ∙ get_or_from_slice_get es place _ e (row_there row at)
+
+  -- what a look at the place lends is the row there
+  pub row_lent : (found : Option (Bor (Entry (Row R)))) → IsItemAt es place found → option_and_then value_of (option_copied found) ≡ row_at (map value_of es) place
+  row_lent None found = sym (get_or_past (map value_of es) place None (omega (arith, length-map es value_of, found.3)))
+  row_lent (Some e) found = sym (get_or-map value_of es place e.now None found.3.0 ∙ ap value_of (sym found.1))
 
   -- a write of one entry changes the row there
   pub set-changes : (e : Entry (Row R)) → place < length es → ChangesAt (row_at (map value_of es)) (row_at (map value_of (set es place e))) place (value_of e)

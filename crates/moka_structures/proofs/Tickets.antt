@@ -1,5 +1,5 @@
 -- What each call leaves of the tickets and of their items.
-use Rattle.std.proofs.Common.{◌≡◌, ◌≢◌, ℕ, suc, ◌<◌, ◌≤◌, Bool, true, false, cond, ◌&&◌, T, List, [], ◌∷◌, ◌++◌, map, length, Option, Some, None, IsSome, IsNone, IfSome, is_some, nat_eq, All, inl, inr, refl, sym, ap, subst, ◌∙◌, arith, rules, slice_get}
+use Rattle.std.proofs.Common.{◌≡◌, ◌≢◌, ℕ, suc, ◌<◌, ◌≤◌, Bool, true, false, cond, ◌&&◌, T, List, [], ◌∷◌, ◌++◌, map, length, Option, Some, None, IsSome, IsNone, IfSome, nat_eq, All, inl, inr, refl, sym, ap, subst, ◌∙◌, arith, rules, slice_get}
 use Rattle.std.proofs.lemmas.Bool.{cases_lt, eq-eqb, ne_eqb, cond-true, cond-false, false≢true}
 use Rattle.std.proofs.lemmas.Bool.Decides.{nat_tests}
 use Rattle.moka_links.proofs.FinMaps.{get-put, get-taken, len-inserted}
@@ -27,11 +27,6 @@ slot-from (Some w) h = (w.slot, refl)
 none-from : {T : Type 0} (o : Option (Waiting T)) → option_map (λ w. w.item) o ≡ None → option_map (λ w. w.slot) o ≡ None
 none-from None h = refl
 none-from (Some w) h = absurd (let no : Some w.item ≡ None = h in cc)
-
--- both have a value or neither
-pub same-some : {T : Type 0} (o : Option (Waiting T)) → is_some o ≡ is_some (option_map (λ w. w.item) o)
-same-some None = refl
-same-some (Some w) = refl
 
 -- a look-up in the map of the entries is one in the entries
 get-entry : {T : Type 0} (es : List (ℕ × Waiting T)) (q : ℕ) → map.get (from_entries {R = nat_cmp} (map (λ e. (e.0, e.1.item)) es)) q ≡ option_map (λ w. w.item) (lookup (nat_eq q) es)

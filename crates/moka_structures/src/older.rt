@@ -1,5 +1,5 @@
 //! Items under rising tickets, in a table that grows with them, and in a list if it cannot grow.
-ghost use Rattle.std.specs.Prelude.{◌≡◌, ◌==◌, ◌+◌, ◌<◌, ◌≤◌, ◌↔◌, ℕ, not, filter, find, fold, OnOk, IfOk, IfSome, IsOk, IsSome, IsNone, None, Some, is_some, option_map, vec_len, vec_capacity};
+ghost use Rattle.std.specs.Prelude.{◌≡◌, ◌==◌, ◌+◌, ◌<◌, ◌≤◌, ◌↔◌, ℕ, not, filter, find, fold, OnOk, IfOk, IfSome, IsOk, IsSome, IsNone, None, Some, option_map, vec_len, vec_capacity};
 ghost use Rattle.std.specs.FinMap as map;
 ghost use Rattle.moka_structures.specs.Kept.{lesser};
 
@@ -105,13 +105,6 @@ impl<T: Copy> Older<T> {
             Some(item) => Some(item),
             None => find_kept(self.kept.as_slice(), ticket),
         }
-    }
-
-    /// Whether an item is out under a ticket.
-    pub fn contains(&self, ticket: u64) -> bool
-        ensures { result ≡ is_some (map.get self.now.items ticket) }
-    {
-        self.get(ticket).is_some()
     }
 
     /// Takes the item under a ticket back, if it is out. The room that this makes is not promised.

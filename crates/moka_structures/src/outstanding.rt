@@ -122,10 +122,7 @@ impl<T: Copy> Outstanding<T> {
     pub fn contains(&self, ticket: u64) -> bool
         ensures { result ≡ is_some (map.get self.now.items ticket) }
     {
-        match self.newest {
-            Some(newest) if newest.ticket == ticket => true,
-            _ => self.older.contains(ticket),
-        }
+        self.get(ticket).is_some()
     }
 
     /// Takes the item under a ticket back, if it is out. The room that this makes is not promised.

@@ -1,5 +1,5 @@
 //! Items under rising tickets, in a table with the order of their tickets.
-ghost use Rattle.std.specs.Prelude.{◌≡◌, ◌+◌, ◌^◌, ◌<◌, ◌≤◌, ◌↔◌, ℕ, OnOk, IfOk, IfSome, IsOk, IsSome, IsNone, None, Some, is_some};
+ghost use Rattle.std.specs.Prelude.{◌≡◌, ◌+◌, ◌^◌, ◌<◌, ◌≤◌, ◌↔◌, ℕ, OnOk, IfOk, IfSome, IsOk, IsSome, IsNone, None, Some};
 ghost use Rattle.std.specs.FinMap as map;
 
 use crate::order_list::OrderList;
@@ -104,13 +104,6 @@ impl<T: Copy> TicketTable<T> {
             Some(waiting) => Some(waiting.item),
             None => None,
         }
-    }
-
-    /// Whether an item is out under a ticket.
-    pub fn contains(&self, ticket: u64) -> bool
-        ensures { result ≡ is_some (map.get self.now.items ticket) }
-    {
-        self.waiting.contains_key(&ticket)
     }
 
     /// Takes the item under a ticket back, if it is out. The room that this makes is not promised.

@@ -5,10 +5,10 @@ ghost use Rattle.moka_parts.specs.Copies.{IsCopiedAnswer};
 ghost use Rattle.moka_parts.specs.KeyTests.{ContainsByStep, record_by};
 ghost use Rattle.moka_parts.specs.Records.{record_of_key};
 ghost use Rattle.moka_parts.specs.declared.error.OutOfMemory.{OutOfMemory};
-ghost use Rattle.moka_parts.specs.declared.policy.Instant.{Instant};
 ghost use Rattle.moka_parts.specs.declared.records.Record.{Record};
 ghost use Rattle.moka_drive.specs.Counters.{after_look_up};
 ghost use Rattle.moka_parts.specs.Hashing.{key_hash};
+ghost use Rattle.moka_timed.specs.Moments.{AtItsMoment, AtItsOnlyMoment};
 ghost use Rattle.moka_drive.specs.Synchronous.{GetsValue, Makes, RemovesEntry, hears_clones, invalidated, meaning_of, removed};
 
 use crate::cache::TimedCache;
@@ -42,11 +42,10 @@ impl<
     pub fn contains_key_by<T: KeyTest<K>>(&mut self, test: &T, hash: u64) -> bool
         requires own { (k : K) → T.passes test.now k ≡ true
             → hash ≡ key_hash S.BuildHasher S.Hasher.Hasher self.old.cache.engine.hasher (K.hash_input k) }
-        ensures { (now : Instant) × C.reads self.old.clock now self.new.clock
-            × ContainsByStep P.says (T.passes test.now) self.old.cache.engine.state now.0 result
+        ensures { AtItsOnlyMoment C.reads self.old self.new (λ now old new.
+            ContainsByStep P.says (T.passes test.now) old.engine.state now.0 result
             × ((key : K) → T.passes test.now key ≡ true
-            → ContainsStep P.says K.eq self.old.cache.engine.state key now.0 result)
-            × (self.new.cache ≡ self.old.cache) }
+            → ContainsStep P.says K.eq old.engine.state key now.0 result) × (new ≡ old)) }
     {
         let now = self.clock.now();
         self.cache.contains_key_by(test, hash, now)
@@ -63,13 +62,12 @@ impl<
         P: Drop,
         requires own { (k : K) → T.passes test.now k ≡ true
             → hash ≡ key_hash S.BuildHasher S.Hasher.Hasher self.old.cache.engine.hasher (K.hash_input k) }
-        ensures made { (now : Instant) × (read : C) × C.reads self.old.clock now read
-            × ((key : K) → T.passes test.now key ≡ true → (own : Result (Option V) OutOfMemory)
+        ensures made { AtItsMoment C.reads self.old self.new (λ now old clock new clock_after.
+            ((key : K) → T.passes test.now key ≡ true → (own : Result (Option V) OutOfMemory)
             × IsCopiedAnswer V.is_clone own result
             × Makes (meaning_of K.eq L.tells P.says W.weighs C.reads X.created X.read X.updated)
-            (GetsValue key hash now own) self.old.cache.engine read self.new.cache.engine self.new.clock)
-            × IfOk result
-            (λ found. ContainsByStep P.says (T.passes test.now) self.old.cache.engine.state now.0 (is_some found)) }
+            (GetsValue key hash now own) old.engine clock new.engine clock_after)
+            × IfOk result (λ found. ContainsByStep P.says (T.passes test.now) old.engine.state now.0 (is_some found))) }
         ensures value { IfOk result (λ found. IfSome found (λ v. (r : Record K V)
             × (record_by (T.passes test.now) self.old.cache.engine.state.records ≡ Some r)
             × V.is_clone r.value v)) }
@@ -91,12 +89,11 @@ impl<
         P: Drop,
         requires own { (k : K) → T.passes test.now k ≡ true
             → hash ≡ key_hash S.BuildHasher S.Hasher.Hasher self.old.cache.engine.hasher (K.hash_input k) }
-        ensures made { (now : Instant) × (read : C) × C.reads self.old.clock now read
-            × ((key : K) → T.passes test.now key ≡ true → (taken : Option (V × Result (Unit {0}) OutOfMemory))
+        ensures made { AtItsMoment C.reads self.old self.new (λ now old clock new clock_after.
+            (key : K) → T.passes test.now key ≡ true → (taken : Option (V × Result (Unit {0}) OutOfMemory))
             × (result ≡ removed taken)
             × Makes (meaning_of K.eq (hears_clones K.is_clone V.is_clone L.tells) P.says W.weighs C.reads
-            X.created X.read X.updated)
-            (RemovesEntry key hash now taken) self.old.cache.engine read self.new.cache.engine self.new.clock) }
+            X.created X.read X.updated) (RemovesEntry key hash now taken) old.engine clock new.engine clock_after) }
         ensures gone { (key : K) → T.passes test.now key ≡ true
             → record_of_key K.eq self.new.cache.engine.state.records key ≡ None }
         ensures counted { self.new.cache.stats ≡ self.old.cache.stats }
@@ -116,12 +113,11 @@ impl<
         P: Drop,
         requires own { (k : K) → T.passes test.now k ≡ true
             → hash ≡ key_hash S.BuildHasher S.Hasher.Hasher self.old.cache.engine.hasher (K.hash_input k) }
-        ensures made { (now : Instant) × (read : C) × C.reads self.old.clock now read
-            × ((key : K) → T.passes test.now key ≡ true → (taken : Option (V × Result (Unit {0}) OutOfMemory))
+        ensures made { AtItsMoment C.reads self.old self.new (λ now old clock new clock_after.
+            (key : K) → T.passes test.now key ≡ true → (taken : Option (V × Result (Unit {0}) OutOfMemory))
             × (result ≡ invalidated taken)
             × Makes (meaning_of K.eq (hears_clones K.is_clone V.is_clone L.tells) P.says W.weighs C.reads
-            X.created X.read X.updated)
-            (RemovesEntry key hash now taken) self.old.cache.engine read self.new.cache.engine self.new.clock) }
+            X.created X.read X.updated) (RemovesEntry key hash now taken) old.engine clock new.engine clock_after) }
         ensures gone { (key : K) → T.passes test.now key ≡ true
             → record_of_key K.eq self.new.cache.engine.state.records key ≡ None }
         ensures counted { self.new.cache.stats ≡ self.old.cache.stats }

@@ -17,6 +17,7 @@ ghost use Rattle.moka_drive.specs.Counters.{after_look_up};
 ghost use Rattle.moka_parts.specs.Hashing.{key_hash};
 ghost use Rattle.moka_drive.specs.Saved.{HasOnlyMembers};
 ghost use Rattle.moka_drive.specs.Unsent.{IsThere, ShowsWrites};
+ghost use Rattle.moka_timed.specs.Moments.{AtItsMoment, AtItsOnlyMoment, AtAnyMoment};
 ghost use Rattle.moka_drive.specs.Synchronous.{fresh, Makes, meaning_of, hears_clones, Just, own_run, InsertsEntry, GetsValue, RemovesEntry, removed, invalidated, taken_out, GetsWith, GetsWithIfMade, GetsWithIfNoError};
 
 use moka_drive::cache::Cache;
@@ -134,9 +135,8 @@ impl<
 
     /// Whether a key is there and visible. Nothing is recorded.
     pub fn contains_key(&mut self, key: &K) -> bool
-        ensures { (now : Instant) × C.reads self.old.clock now self.new.clock
-            × ContainsStep P.says K.eq self.old.cache.engine.state key.now now.0 result
-            × (self.new.cache ≡ self.old.cache) }
+        ensures { AtItsOnlyMoment C.reads self.old self.new (λ now old new.
+            ContainsStep P.says K.eq old.engine.state key.now now.0 result × (new ≡ old)) }
     {
         let now = self.clock.now();
         self.cache.contains_key(key, now)
@@ -151,16 +151,14 @@ impl<
         K: Drop,
         V: Drop,
         P: Drop,
-        ensures made { (now : Instant) × (read : C) × C.reads self.old.clock now read
-            × Makes (meaning_of K.eq L.tells P.says W.weighs C.reads X.created X.read X.updated)
-            (InsertsEntry key (key_hash S.BuildHasher S.Hasher.Hasher self.old.cache.engine.hasher (K.hash_input key))
-            value now result)
-            self.old.cache.engine read self.new.cache.engine self.new.clock
-            × IfOk result (λ _. is_disabled self.old.cache.engine.state.capacity ≡ false
-            → IsThere K.eq self.new.cache.engine.state key value now)
-            × IfOk result (λ _. is_disabled self.old.cache.engine.state.capacity ≡ false
-            → ShowsWrites self.old.cache.engine.state now.0
-            → ContainsStep P.says K.eq self.new.cache.engine.state key now.0 true) }
+        ensures made { AtItsMoment C.reads self.old self.new (λ now old clock new clock_after.
+            Makes (meaning_of K.eq L.tells P.says W.weighs C.reads X.created X.read X.updated)
+            (InsertsEntry key (key_hash S.BuildHasher S.Hasher.Hasher old.engine.hasher (K.hash_input key))
+            value now result) old.engine clock new.engine clock_after
+            × IfOk result (λ _. is_disabled old.engine.state.capacity ≡ false
+            → IsThere K.eq new.engine.state key value now)
+            × IfOk result (λ _. is_disabled old.engine.state.capacity ≡ false → ShowsWrites old.engine.state now.0
+            → ContainsStep P.says K.eq new.engine.state key now.0 true)) }
         ensures back { IfErr result (λ refused. (refused.key ≡ key) × (refused.value ≡ value)) }
         ensures unchanged { OnErr result (self.new.cache.engine.state ≡ self.old.cache.engine.state) }
         ensures counted { self.new.cache.stats ≡ self.old.cache.stats }
@@ -178,14 +176,12 @@ impl<
         K: Clone + Drop,
         V: Clone + Drop,
         P: Drop,
-        ensures made { (now : Instant) × (read : C) × C.reads self.old.clock now read
-            × ((own : Result (Option V) OutOfMemory) × IsCopiedAnswer V.is_clone own result
+        ensures made { AtItsMoment C.reads self.old self.new (λ now old clock new clock_after.
+            ((own : Result (Option V) OutOfMemory) × IsCopiedAnswer V.is_clone own result
             × Makes (meaning_of K.eq L.tells P.says W.weighs C.reads X.created X.read X.updated)
-            (GetsValue key.now
-            (key_hash S.BuildHasher S.Hasher.Hasher self.old.cache.engine.hasher (K.hash_input key.now)) now own)
-            self.old.cache.engine read self.new.cache.engine self.new.clock)
-            × IfOk result
-            (λ found. ContainsStep P.says K.eq self.old.cache.engine.state key.now now.0 (is_some found)) }
+            (GetsValue key.now (key_hash S.BuildHasher S.Hasher.Hasher old.engine.hasher (K.hash_input key.now))
+            now own) old.engine clock new.engine clock_after)
+            × IfOk result (λ found. ContainsStep P.says K.eq old.engine.state key.now now.0 (is_some found))) }
         ensures value { IfOk result (λ found. IfSome found (λ v. (r : Record K V)
             × (record_of_key K.eq self.old.cache.engine.state.records key.now ≡ Some r) × V.is_clone r.value v)) }
         ensures unchanged { OnErr result (self.new.cache.engine.state ≡ self.old.cache.engine.state) }
@@ -204,13 +200,12 @@ impl<
         K: Clone + Drop,
         V: Clone + Drop,
         P: Drop,
-        ensures made { (now : Instant) × (read : C) × C.reads self.old.clock now read
-            × ((taken : Option (V × Result (Unit {0}) OutOfMemory)) × (result ≡ removed taken)
+        ensures made { AtItsMoment C.reads self.old self.new (λ now old clock new clock_after.
+            (taken : Option (V × Result (Unit {0}) OutOfMemory)) × (result ≡ removed taken)
             × Makes (meaning_of K.eq (hears_clones K.is_clone V.is_clone L.tells) P.says W.weighs C.reads
             X.created X.read X.updated)
-            (RemovesEntry key.now
-            (key_hash S.BuildHasher S.Hasher.Hasher self.old.cache.engine.hasher (K.hash_input key.now)) now taken)
-            self.old.cache.engine read self.new.cache.engine self.new.clock) }
+            (RemovesEntry key.now (key_hash S.BuildHasher S.Hasher.Hasher old.engine.hasher (K.hash_input key.now))
+            now taken) old.engine clock new.engine clock_after) }
         ensures gone { record_of_key K.eq self.new.cache.engine.state.records key.now ≡ None }
         ensures value { taken_out result
             ≡ option_map (λ r. r.value) (record_of_key K.eq self.old.cache.engine.state.records key.now) }
@@ -229,13 +224,12 @@ impl<
         K: Clone + Drop,
         V: Clone + Drop,
         P: Drop,
-        ensures made { (now : Instant) × (read : C) × C.reads self.old.clock now read
-            × ((taken : Option (V × Result (Unit {0}) OutOfMemory)) × (result ≡ invalidated taken)
+        ensures made { AtItsMoment C.reads self.old self.new (λ now old clock new clock_after.
+            (taken : Option (V × Result (Unit {0}) OutOfMemory)) × (result ≡ invalidated taken)
             × Makes (meaning_of K.eq (hears_clones K.is_clone V.is_clone L.tells) P.says W.weighs C.reads
             X.created X.read X.updated)
-            (RemovesEntry key.now
-            (key_hash S.BuildHasher S.Hasher.Hasher self.old.cache.engine.hasher (K.hash_input key.now)) now taken)
-            self.old.cache.engine read self.new.cache.engine self.new.clock) }
+            (RemovesEntry key.now (key_hash S.BuildHasher S.Hasher.Hasher old.engine.hasher (K.hash_input key.now))
+            now taken) old.engine clock new.engine clock_after) }
         ensures gone { record_of_key K.eq self.new.cache.engine.state.records key.now ≡ None }
         ensures counted { self.new.cache.stats ≡ self.old.cache.stats }
     {
@@ -254,12 +248,12 @@ impl<
         K: Clone + Drop,
         V: Clone + Drop,
         P: Drop,
-        requires callable { (now : Instant) → (read : C) → C.reads self.old.clock now read
-            → ContainsStep P.says K.eq self.old.cache.engine.state key now.0 false → F.pre init }
-        ensures { (now : Instant) × (read : C) × C.reads self.old.clock now read
-            × GetsWith (meaning_of K.eq L.tells P.says W.weighs C.reads X.created X.read X.updated)
-            V.is_clone key (key_hash S.BuildHasher S.Hasher.Hasher self.old.cache.engine.hasher (K.hash_input key)) now
-            self.old.cache read self.new.cache self.new.clock (F.post init) result }
+        requires callable { AtAnyMoment C.reads self.old.clock (λ now.
+            ContainsStep P.says K.eq self.old.cache.engine.state key now.0 false → F.pre init) }
+        ensures { AtItsMoment C.reads self.old self.new (λ now old clock new clock_after.
+            GetsWith (meaning_of K.eq L.tells P.says W.weighs C.reads X.created X.read X.updated)
+            V.is_clone key (key_hash S.BuildHasher S.Hasher.Hasher old.engine.hasher (K.hash_input key)) now
+            old clock new clock_after (F.post init) result) }
     {
         let now = self.clock.now();
         self.cache.get_with(key, init, now, &mut self.clock)
@@ -278,12 +272,12 @@ impl<
         K: Clone + Drop,
         V: Clone + Drop,
         P: Drop,
-        requires callable { (now : Instant) → (read : C) → C.reads self.old.clock now read
-            → ContainsStep P.says K.eq self.old.cache.engine.state key now.0 false → F.pre init }
-        ensures { (now : Instant) × (read : C) × C.reads self.old.clock now read
-            × GetsWithIfMade (meaning_of K.eq L.tells P.says W.weighs C.reads X.created X.read X.updated)
-            V.is_clone key (key_hash S.BuildHasher S.Hasher.Hasher self.old.cache.engine.hasher (K.hash_input key)) now
-            self.old.cache read self.new.cache self.new.clock (F.post init) result }
+        requires callable { AtAnyMoment C.reads self.old.clock (λ now.
+            ContainsStep P.says K.eq self.old.cache.engine.state key now.0 false → F.pre init) }
+        ensures { AtItsMoment C.reads self.old self.new (λ now old clock new clock_after.
+            GetsWithIfMade (meaning_of K.eq L.tells P.says W.weighs C.reads X.created X.read X.updated)
+            V.is_clone key (key_hash S.BuildHasher S.Hasher.Hasher old.engine.hasher (K.hash_input key)) now
+            old clock new clock_after (F.post init) result) }
     {
         let now = self.clock.now();
         self.cache
@@ -303,12 +297,12 @@ impl<
         K: Clone + Drop,
         V: Clone + Drop,
         P: Drop,
-        requires callable { (now : Instant) → (read : C) → C.reads self.old.clock now read
-            → ContainsStep P.says K.eq self.old.cache.engine.state key now.0 false → F.pre init }
-        ensures { (now : Instant) × (read : C) × C.reads self.old.clock now read
-            × GetsWithIfNoError (meaning_of K.eq L.tells P.says W.weighs C.reads X.created X.read X.updated)
-            V.is_clone key (key_hash S.BuildHasher S.Hasher.Hasher self.old.cache.engine.hasher (K.hash_input key)) now
-            self.old.cache read self.new.cache self.new.clock (F.post init) result }
+        requires callable { AtAnyMoment C.reads self.old.clock (λ now.
+            ContainsStep P.says K.eq self.old.cache.engine.state key now.0 false → F.pre init) }
+        ensures { AtItsMoment C.reads self.old self.new (λ now old clock new clock_after.
+            GetsWithIfNoError (meaning_of K.eq L.tells P.says W.weighs C.reads X.created X.read X.updated)
+            V.is_clone key (key_hash S.BuildHasher S.Hasher.Hasher old.engine.hasher (K.hash_input key)) now
+            old clock new clock_after (F.post init) result) }
     {
         let now = self.clock.now();
         self.cache.try_get_with(key, init, now, &mut self.clock)
@@ -324,12 +318,9 @@ impl<
         predicate: P,
         ids: &mut I,
     ) -> Result<PredicateId, PredicateRefused<P>>
-        ensures made { (now : Instant) × C.reads self.old.clock now self.new.clock
-            × ((e : Events K V)
-            × InvalidateStep self.old.cache.engine.state predicate now result e.ids self.new.cache.engine.state
-            × (e ≡ only_ids e.ids)
-            × Befalls L.tells e self.old.cache.engine self.new.cache.engine
-            × Leads I.gives ids.old e.ids ids.new) }
+        ensures made { AtItsOnlyMoment C.reads self.old self.new (λ now old new.
+            (e : Events K V) × InvalidateStep old.engine.state predicate now result e.ids new.engine.state
+            × (e ≡ only_ids e.ids) × Befalls L.tells e old.engine new.engine × Leads I.gives ids.old e.ids ids.new) }
         ensures counted { self.new.cache.stats ≡ self.old.cache.stats }
     {
         let now = self.clock.now();
@@ -352,9 +343,9 @@ impl<
 
     /// Invalidates all entries that were written or read before the clock's moment.
     pub fn invalidate_all(&mut self)
-        ensures made { (now : Instant) × C.reads self.old.clock now self.new.clock
-            × (self.new.cache.engine.state ≡ record self.old.cache.engine.state { invalid_before = Some now })
-            × Befalls L.tells no_events self.old.cache.engine self.new.cache.engine }
+        ensures made { AtItsOnlyMoment C.reads self.old self.new (λ now old new.
+            (new.engine.state ≡ record old.engine.state { invalid_before = Some now })
+            × Befalls L.tells no_events old.engine new.engine) }
         ensures counted { self.new.cache.stats ≡ self.old.cache.stats }
     {
         let now = self.clock.now();
@@ -370,9 +361,9 @@ impl<
         K: Drop,
         V: Drop,
         P: Drop,
-        ensures made { (now : Instant) × (read : C) × C.reads self.old.clock now read
-            × Makes (meaning_of K.eq L.tells P.says W.weighs C.reads X.created X.read X.updated)
-            (Just (own_run now) (reply.Run result)) self.old.cache.engine read self.new.cache.engine self.new.clock }
+        ensures made { AtItsMoment C.reads self.old self.new (λ now old clock new clock_after.
+            Makes (meaning_of K.eq L.tells P.says W.weighs C.reads X.created X.read X.updated)
+            (Just (own_run now) (reply.Run result)) old.engine clock new.engine clock_after) }
         ensures members { HasOnlyMembers self.new.cache.engine.state }
         ensures exact { IsExact self.new.cache.engine.state }
         ensures within { IsWithin self.new.cache.engine.state.capacity self.new.cache.engine.state.access }

@@ -2,11 +2,11 @@
 ghost use Rattle.std.specs.Prelude.{◌≡◌, false, Option, Result, option_copied};
 ghost use Rattle.moka_parts.specs.Calls.{ContainsStep};
 ghost use Rattle.moka_parts.specs.declared.error.InsertRefused.{InsertRefused};
-ghost use Rattle.moka_parts.specs.declared.policy.Instant.{Instant};
 ghost use Rattle.moka_drive.specs.Computing.{AndUpserts, AndComputes};
 ghost use Rattle.moka_drive.specs.Entries.{OrInserts, OrInsertsMade, OrInsertsIfMade, OrInsertsIfNoError};
 ghost use Rattle.moka_drive.specs.Given.{Sees};
 ghost use Rattle.moka_parts.specs.Hashing.{key_hash};
+ghost use Rattle.moka_timed.specs.Moments.{AtItsMoment, AtAnyMoment};
 ghost use Rattle.moka_drive.specs.Synchronous.{meaning_of, hears_clones};
 
 use crate::cache::TimedCache;
@@ -77,11 +77,11 @@ impl<
         K: Clone + Drop,
         V: Clone + Drop,
         P: Drop,
-        ensures { (now : Instant) × (read : C) × C.reads self.entry.cache.now.clock now read
-            × OrInserts (meaning_of K.eq L.tells P.says W.weighs C.reads X.created X.read X.updated)
-            K.is_clone V.is_clone self.entry.key (key_hash S.BuildHasher S.Hasher.Hasher
-            self.entry.cache.now.cache.engine.hasher (K.hash_input self.entry.key)) now
-            self.entry.cache.now.cache read self.exit.0.now.cache self.exit.0.now.clock value result }
+        ensures { AtItsMoment C.reads self.entry.cache.now self.exit.0.now (λ now old clock new clock_after.
+            OrInserts (meaning_of K.eq L.tells P.says W.weighs C.reads X.created X.read X.updated)
+            K.is_clone V.is_clone self.entry.key
+            (key_hash S.BuildHasher S.Hasher.Hasher old.engine.hasher (K.hash_input self.entry.key)) now
+            old clock new clock_after value result) }
     {
         let TimedEntrySelector { cache: timed, key } = self;
         let now = timed.clock.now();
@@ -100,13 +100,13 @@ impl<
         K: Clone + Drop,
         V: Clone + Drop,
         P: Drop,
-        requires callable { (now : Instant) → (read : C) → C.reads self.cache.now.clock now read
-            → ContainsStep P.says K.eq self.cache.now.cache.engine.state self.key now.0 false → F.pre init }
-        ensures { (now : Instant) × (read : C) × C.reads self.entry.cache.now.clock now read
-            × OrInsertsMade (meaning_of K.eq L.tells P.says W.weighs C.reads X.created X.read X.updated)
-            K.is_clone V.is_clone self.entry.key (key_hash S.BuildHasher S.Hasher.Hasher
-            self.entry.cache.now.cache.engine.hasher (K.hash_input self.entry.key)) now
-            self.entry.cache.now.cache read self.exit.0.now.cache self.exit.0.now.clock (F.post init) result }
+        requires callable { AtAnyMoment C.reads self.cache.now.clock (λ now.
+            ContainsStep P.says K.eq self.cache.now.cache.engine.state self.key now.0 false → F.pre init) }
+        ensures { AtItsMoment C.reads self.entry.cache.now self.exit.0.now (λ now old clock new clock_after.
+            OrInsertsMade (meaning_of K.eq L.tells P.says W.weighs C.reads X.created X.read X.updated)
+            K.is_clone V.is_clone self.entry.key
+            (key_hash S.BuildHasher S.Hasher.Hasher old.engine.hasher (K.hash_input self.entry.key)) now
+            old clock new clock_after (F.post init) result) }
     {
         let TimedEntrySelector { cache: timed, key } = self;
         let now = timed.clock.now();
@@ -127,13 +127,13 @@ impl<
         K: Clone + Drop,
         V: Clone + Drop,
         P: Drop,
-        requires callable { (now : Instant) → (read : C) → C.reads self.cache.now.clock now read
-            → ContainsStep P.says K.eq self.cache.now.cache.engine.state self.key now.0 false → F.pre init }
-        ensures { (now : Instant) × (read : C) × C.reads self.entry.cache.now.clock now read
-            × OrInsertsIfMade (meaning_of K.eq L.tells P.says W.weighs C.reads X.created X.read X.updated)
-            K.is_clone V.is_clone self.entry.key (key_hash S.BuildHasher S.Hasher.Hasher
-            self.entry.cache.now.cache.engine.hasher (K.hash_input self.entry.key)) now
-            self.entry.cache.now.cache read self.exit.0.now.cache self.exit.0.now.clock (F.post init) result }
+        requires callable { AtAnyMoment C.reads self.cache.now.clock (λ now.
+            ContainsStep P.says K.eq self.cache.now.cache.engine.state self.key now.0 false → F.pre init) }
+        ensures { AtItsMoment C.reads self.entry.cache.now self.exit.0.now (λ now old clock new clock_after.
+            OrInsertsIfMade (meaning_of K.eq L.tells P.says W.weighs C.reads X.created X.read X.updated)
+            K.is_clone V.is_clone self.entry.key
+            (key_hash S.BuildHasher S.Hasher.Hasher old.engine.hasher (K.hash_input self.entry.key)) now
+            old clock new clock_after (F.post init) result) }
     {
         let TimedEntrySelector { cache: timed, key } = self;
         let now = timed.clock.now();
@@ -154,13 +154,13 @@ impl<
         K: Clone + Drop,
         V: Clone + Drop,
         P: Drop,
-        requires callable { (now : Instant) → (read : C) → C.reads self.cache.now.clock now read
-            → ContainsStep P.says K.eq self.cache.now.cache.engine.state self.key now.0 false → F.pre init }
-        ensures { (now : Instant) × (read : C) × C.reads self.entry.cache.now.clock now read
-            × OrInsertsIfNoError (meaning_of K.eq L.tells P.says W.weighs C.reads X.created X.read X.updated)
-            K.is_clone V.is_clone self.entry.key (key_hash S.BuildHasher S.Hasher.Hasher
-            self.entry.cache.now.cache.engine.hasher (K.hash_input self.entry.key)) now
-            self.entry.cache.now.cache read self.exit.0.now.cache self.exit.0.now.clock (F.post init) result }
+        requires callable { AtAnyMoment C.reads self.cache.now.clock (λ now.
+            ContainsStep P.says K.eq self.cache.now.cache.engine.state self.key now.0 false → F.pre init) }
+        ensures { AtItsMoment C.reads self.entry.cache.now self.exit.0.now (λ now old clock new clock_after.
+            OrInsertsIfNoError (meaning_of K.eq L.tells P.says W.weighs C.reads X.created X.read X.updated)
+            K.is_clone V.is_clone self.entry.key
+            (key_hash S.BuildHasher S.Hasher.Hasher old.engine.hasher (K.hash_input self.entry.key)) now
+            old clock new clock_after (F.post init) result) }
     {
         let TimedEntrySelector { cache: timed, key } = self;
         let now = timed.clock.now();
@@ -181,13 +181,13 @@ impl<
         K: Clone + Drop,
         V: Clone + Drop,
         P: Drop,
-        requires callable { (now : Instant) → (read : C) → C.reads self.cache.now.clock now read → (seen : Option V)
-            → Sees K.eq P.says V.is_clone self.cache.now.cache.engine.state self.key now.0 seen → F.pre f seen }
-        ensures { (now : Instant) × (read : C) × C.reads self.entry.cache.now.clock now read
-            × AndUpserts (meaning_of K.eq L.tells P.says W.weighs C.reads X.created X.read X.updated)
-            K.is_clone V.is_clone self.entry.key (key_hash S.BuildHasher S.Hasher.Hasher
-            self.entry.cache.now.cache.engine.hasher (K.hash_input self.entry.key)) now
-            self.entry.cache.now.cache read self.exit.0.now.cache self.exit.0.now.clock (F.post f) result }
+        requires callable { AtAnyMoment C.reads self.cache.now.clock (λ now. (seen : Option V)
+            → Sees K.eq P.says V.is_clone self.cache.now.cache.engine.state self.key now.0 seen → F.pre f seen) }
+        ensures { AtItsMoment C.reads self.entry.cache.now self.exit.0.now (λ now old clock new clock_after.
+            AndUpserts (meaning_of K.eq L.tells P.says W.weighs C.reads X.created X.read X.updated)
+            K.is_clone V.is_clone self.entry.key
+            (key_hash S.BuildHasher S.Hasher.Hasher old.engine.hasher (K.hash_input self.entry.key)) now
+            old clock new clock_after (F.post f) result) }
     {
         let TimedEntrySelector { cache: timed, key } = self;
         let now = timed.clock.now();
@@ -206,16 +206,15 @@ impl<
         K: Clone + Drop,
         V: Clone + Drop,
         P: Drop,
-        requires callable { (now : Instant) → (read : C) → C.reads self.cache.now.clock now read → (seen : _)
+        requires callable { AtAnyMoment C.reads self.cache.now.clock (λ now. (seen : _)
             → Sees K.eq P.says V.is_clone self.cache.now.cache.engine.state self.key now.0 (option_copied seen)
-            → F.pre f seen }
-        ensures { (now : Instant) × (read : C) × C.reads self.entry.cache.now.clock now read
-            × AndComputes (meaning_of K.eq (hears_clones K.is_clone V.is_clone L.tells) P.says W.weighs C.reads
+            → F.pre f seen) }
+        ensures { AtItsMoment C.reads self.entry.cache.now self.exit.0.now (λ now old clock new clock_after.
+            AndComputes (meaning_of K.eq (hears_clones K.is_clone V.is_clone L.tells) P.says W.weighs C.reads
             X.created X.read X.updated)
-            K.is_clone V.is_clone self.entry.key (key_hash S.BuildHasher S.Hasher.Hasher
-            self.entry.cache.now.cache.engine.hasher (K.hash_input self.entry.key)) now
-            self.entry.cache.now.cache read self.exit.0.now.cache self.exit.0.now.clock (λ seen op. (x : _)
-            × (option_copied x ≡ seen) × F.post f x op) result }
+            K.is_clone V.is_clone self.entry.key
+            (key_hash S.BuildHasher S.Hasher.Hasher old.engine.hasher (K.hash_input self.entry.key)) now
+            old clock new clock_after (λ seen op. (x : _) × (option_copied x ≡ seen) × F.post f x op) result) }
     {
         let TimedEntrySelector { cache: timed, key } = self;
         let now = timed.clock.now();

@@ -2,7 +2,7 @@
 ghost use Rattle.std.specs.Prelude.{◌≡◌, IfOk};
 ghost use Rattle.std.specs.Vec.Iter.{into_iter_items};
 ghost use Rattle.moka_parts.specs.Copies.{ClonesAreEqual};
-ghost use Rattle.moka_parts.specs.declared.policy.Instant.{Instant};
+ghost use Rattle.moka_timed.specs.Moments.{AtItsOnlyMoment};
 ghost use Rattle.moka_drive.specs.Visible.{ListsVisible, LooksUpClones};
 
 use crate::cache::TimedCache;
@@ -32,11 +32,11 @@ impl<
     where
         K: Clone + Drop,
         V: Clone + Drop,
-        ensures listed { (now : Instant) × C.reads self.old.clock now self.new.clock
-            × IfOk result (λ found. LooksUpClones P.says V.is_clone self.old.cache.engine.state now.0
-            K.eq K.is_clone (into_iter_items found))
+        ensures listed { AtItsOnlyMoment C.reads self.old self.new (λ now old new.
+            IfOk result (λ found.
+            LooksUpClones P.says V.is_clone old.engine.state now.0 K.eq K.is_clone (into_iter_items found))
             × (ClonesAreEqual K.is_clone → IfOk result (λ found.
-            ListsVisible P.says V.is_clone self.old.cache.engine.state now.0 (into_iter_items found))) }
+            ListsVisible P.says V.is_clone old.engine.state now.0 (into_iter_items found)))) }
         ensures unchanged { self.new.cache ≡ self.old.cache }
     {
         let now = self.clock.now();

@@ -1,9 +1,9 @@
 //! Calls for many keys at once, each at one moment of the clock.
 ghost use Rattle.std.specs.Prelude.{◌≡◌};
 ghost use Rattle.moka_parts.specs.Hashing.{key_hash};
-ghost use Rattle.moka_parts.specs.declared.policy.Instant.{Instant};
 ghost use Rattle.moka_drive.specs.Counters.{after_look_ups};
 ghost use Rattle.moka_drive.specs.Many.{GetsMany, InsertsMany, InvalidatesMany, found_by};
+ghost use Rattle.moka_timed.specs.Moments.{AtItsMoment};
 ghost use Rattle.moka_drive.specs.Synchronous.{Makes, hears_clones, meaning_of};
 
 use crate::cache::TimedCache;
@@ -38,11 +38,10 @@ impl<
         K: Clone + Drop,
         V: Clone + Drop,
         P: Drop,
-        ensures made { (now : Instant) × (read : C) × C.reads self.old.clock now read
-            × Makes (meaning_of K.eq L.tells P.says W.weighs C.reads X.created X.read X.updated)
-            (GetsMany V.is_clone (λ key.
-            key_hash S.BuildHasher S.Hasher.Hasher self.old.cache.engine.hasher (K.hash_input key)) now keys.now result)
-            self.old.cache.engine read self.new.cache.engine self.new.clock }
+        ensures made { AtItsMoment C.reads self.old self.new (λ now old clock new clock_after.
+            Makes (meaning_of K.eq L.tells P.says W.weighs C.reads X.created X.read X.updated)
+            (GetsMany V.is_clone (λ key. key_hash S.BuildHasher S.Hasher.Hasher old.engine.hasher (K.hash_input key))
+            now keys.now result) old.engine clock new.engine clock_after) }
         ensures counted { self.new.cache.stats ≡ after_look_ups (found_by result) self.old.cache.stats }
     {
         let now = self.clock.now();
@@ -58,12 +57,10 @@ impl<
         K: Drop,
         V: Drop,
         P: Drop,
-        ensures made { (now : Instant) × (read : C) × C.reads self.old.clock now read
-            × Makes (meaning_of K.eq L.tells P.says W.weighs C.reads X.created X.read X.updated)
-            (InsertsMany
-            (λ key. key_hash S.BuildHasher S.Hasher.Hasher self.old.cache.engine.hasher (K.hash_input key)) now
-            items.items result)
-            self.old.cache.engine read self.new.cache.engine self.new.clock }
+        ensures made { AtItsMoment C.reads self.old self.new (λ now old clock new clock_after.
+            Makes (meaning_of K.eq L.tells P.says W.weighs C.reads X.created X.read X.updated)
+            (InsertsMany (λ key. key_hash S.BuildHasher S.Hasher.Hasher old.engine.hasher (K.hash_input key))
+            now items.items result) old.engine clock new.engine clock_after) }
         ensures counted { self.new.cache.stats ≡ self.old.cache.stats }
     {
         let now = self.clock.now();
@@ -79,13 +76,11 @@ impl<
         K: Clone + Drop,
         V: Clone + Drop,
         P: Drop,
-        ensures made { (now : Instant) × (read : C) × C.reads self.old.clock now read
-            × Makes (meaning_of K.eq (hears_clones K.is_clone V.is_clone L.tells) P.says W.weighs C.reads
+        ensures made { AtItsMoment C.reads self.old self.new (λ now old clock new clock_after.
+            Makes (meaning_of K.eq (hears_clones K.is_clone V.is_clone L.tells) P.says W.weighs C.reads
             X.created X.read X.updated)
-            (InvalidatesMany
-            (λ key. key_hash S.BuildHasher S.Hasher.Hasher self.old.cache.engine.hasher (K.hash_input key)) now
-            keys.now result)
-            self.old.cache.engine read self.new.cache.engine self.new.clock }
+            (InvalidatesMany (λ key. key_hash S.BuildHasher S.Hasher.Hasher old.engine.hasher (K.hash_input key))
+            now keys.now result) old.engine clock new.engine clock_after) }
         ensures counted { self.new.cache.stats ≡ self.old.cache.stats }
     {
         let now = self.clock.now();

@@ -3,11 +3,11 @@ ghost use Rattle.std.specs.Prelude.{◌≡◌, ◌∷◌, ◌++◌, [], Bool, fa
 ghost use Rattle.std.specs.Vec.Iter.{into_iter_items};
 ghost use Rattle.moka_parts.specs.State.{is_disabled};
 ghost use Rattle.moka_parts.specs.declared.calls.Reply.TheVariants as reply;
-ghost use Rattle.moka_parts.specs.declared.policy.Instant.{Instant};
 ghost use Rattle.moka_engine.specs.Snapshots.{scene_of};
 ghost use Rattle.moka_engine.specs.declared.base_cache.restores.Restored.{Restored};
 ghost use Rattle.moka_parts.specs.Hashing.{key_hash};
 ghost use Rattle.moka_drive.specs.Saved.{AddsOnly, HasOnlyMembers, AreSaved, AreThere, IsRestored, PutsBack, PutsManyBack, TakesOnlyExpired};
+ghost use Rattle.moka_timed.specs.Moments.{AtItsMoment};
 ghost use Rattle.moka_drive.specs.Synchronous.{Just, Makes, meaning_of, own_run};
 ghost use Rattle.moka_drive.specs.Unsent.{HidesNoMore};
 
@@ -41,11 +41,11 @@ impl<
         K: Clone + Drop,
         V: Clone + Drop,
         P: Drop,
-        ensures saved { (now : Instant) × (read : C) × C.reads self.old.clock now read
-            × IfOk result (λ items. AreSaved P.says K.is_clone V.is_clone
-            (scene_of self.new.cache.engine.state now.0) self.new.cache.engine.state.access items.items)
+        ensures saved { AtItsMoment C.reads self.old self.new (λ now old clock new clock_after.
+            IfOk result (λ items. AreSaved P.says K.is_clone V.is_clone
+            (scene_of new.engine.state now.0) new.engine.state.access items.items)
             × ((more : Bool) × Makes (meaning_of K.eq L.tells P.says W.weighs C.reads X.created X.read X.updated)
-            (Just (own_run now) (reply.Run more)) self.old.cache.engine read self.new.cache.engine self.new.clock) }
+            (Just (own_run now) (reply.Run more)) old.engine clock new.engine clock_after)) }
         ensures members { HasOnlyMembers self.new.cache.engine.state }
         ensures counted { self.new.cache.stats ≡ self.old.cache.stats }
     {
@@ -63,11 +63,11 @@ impl<
         K: Drop,
         V: Drop,
         P: Drop,
-        ensures made { (now : Instant) × (read : C) × C.reads self.old.clock now read
-            × PutsBack (meaning_of K.eq L.tells P.says W.weighs C.reads X.created X.read X.updated)
+        ensures made { AtItsMoment C.reads self.old self.new (λ now old clock new clock_after.
+            PutsBack (meaning_of K.eq L.tells P.says W.weighs C.reads X.created X.read X.updated)
             (λ h k. key_hash S.BuildHasher S.Hasher.Hasher h (K.hash_input k)) now item result
-            self.old.cache.engine read self.new.cache.engine self.new.clock
-            × TakesOnlyExpired W.weighs (item ∷ []) now.0 self.old.cache.engine.state self.new.cache.engine.state }
+            old.engine clock new.engine clock_after
+            × TakesOnlyExpired W.weighs (item ∷ []) now.0 old.engine.state new.engine.state) }
         ensures kept { IfOk result (λ _. is_disabled self.old.cache.engine.state.capacity ≡ false
             → IsRestored K.eq self.new.cache.engine.state item) }
         ensures adds { AddsOnly (item ∷ []) self.old.cache.engine.state self.new.cache.engine.state }
@@ -90,13 +90,12 @@ impl<
         K: Drop,
         V: Drop,
         P: Drop,
-        ensures made { (now : Instant) × (read : C) × C.reads self.old.clock now read
-            × PutsManyBack (meaning_of K.eq L.tells P.says W.weighs C.reads X.created X.read X.updated)
+        ensures made { AtItsMoment C.reads self.old self.new (λ now old clock new clock_after.
+            PutsManyBack (meaning_of K.eq L.tells P.says W.weighs C.reads X.created X.read X.updated)
             (λ h k. key_hash S.BuildHasher S.Hasher.Hasher h (K.hash_input k)) now items.items result
-            self.old.cache.engine read self.new.cache.engine self.new.clock
-            × IfOk result
-            (λ _. AreThere W.weighs K.eq now.0 items.items self.old.cache.engine.state self.new.cache.engine.state)
-            × TakesOnlyExpired W.weighs items.items now.0 self.old.cache.engine.state self.new.cache.engine.state }
+            old.engine clock new.engine clock_after
+            × IfOk result (λ _. AreThere W.weighs K.eq now.0 items.items old.engine.state new.engine.state)
+            × TakesOnlyExpired W.weighs items.items now.0 old.engine.state new.engine.state) }
         ensures adds { AddsOnly items.items self.old.cache.engine.state self.new.cache.engine.state }
         ensures hides { HidesNoMore self.old.cache.engine.state self.new.cache.engine.state }
         ensures back { IfErr result (λ e. (done : List (Restored K V))

@@ -19,7 +19,7 @@ use std::alloc::Global;
 use std::time::Duration;
 
 /// A session.
-#[derive(Clone, Copy, Debug, PartialEq, Eq)]
+#[derive(Clone, Copy, Debug, PartialEq)]
 pub struct Session {
     /// Whose it is.
     pub user: u64,
@@ -27,7 +27,7 @@ pub struct Session {
 }
 
 /// Says yes to the sessions of a user.
-#[derive(Clone, Copy, Debug, PartialEq, Eq)]
+#[derive(Clone, Copy, Debug, PartialEq)]
 pub struct OfUser(pub u64);
 
 impl<K> PredicateFn<K, Session> for OfUser {

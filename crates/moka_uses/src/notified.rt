@@ -8,7 +8,7 @@ use moka_engine::{CacheConfig, Engine, Instant, Listener, NoExpiry, RemovalCause
 use std::alloc::Global;
 
 /// Counts the values that leave.
-#[derive(Clone, Copy, Debug, PartialEq, Eq)]
+#[derive(Clone, Copy, Debug, PartialEq)]
 pub struct Counter {
     pub count: u64,
 }

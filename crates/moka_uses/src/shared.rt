@@ -17,7 +17,7 @@ use moka_segments::laws::{
 use std::hash::{BuildHasher, Hash};
 
 /// What the segments of a cache keep together.
-#[derive(Clone, Copy, Debug, PartialEq, Eq)]
+#[derive(Clone, Copy)]
 pub struct Kept {
     /// The weight of all entries.
     pub weight: u64,

@@ -12,7 +12,7 @@ use std::marker::Model;
 const MOST: usize = 1 << 32;
 
 /// A timer that is due.
-#[derive(Clone, Copy, Debug, PartialEq, Eq)]
+#[derive(Clone, Copy)]
 pub struct Due {
     /// The slot that it had.
     pub slot: u32,

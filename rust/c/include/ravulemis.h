@@ -49,9 +49,10 @@ enum ravulemis_cause {
 };
 
 /* Is lent key, value and cause of each value that leaves, until it returns, by the thread by whose call it left or by
-   another that is notifying already. It may call the cache, but must not wait for another thread that does: if 1,024
-   notices are pending, that one may wait for it. Nor may it put back each value that leaves with RAVULEMIS_SIZE:
-   another leaves for it, so the call never ends. It must not throw or jump out. */
+   another that is notifying already. It may call the cache, and is told of what leaves by that when it has returned;
+   but it must not wait for another thread that does: if 1,024 notices are pending, that one may wait for it. Nor may
+   it put back each value that leaves with RAVULEMIS_SIZE: another leaves for it, so the call never ends. It must not
+   throw or jump out. */
 typedef void (*ravulemis_listener)(void *context, const void *key, size_t key_length, const void *value,
                                    size_t value_length, int32_t cause);
 

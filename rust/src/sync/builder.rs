@@ -156,6 +156,7 @@ where
             let listener = settings.listener.clone();
             let share = settings.max_capacity.map(|all| router.share(all, index));
             Place {
+                index: index as usize,
                 shard: Mutex::new(Shard::new(settings.clone(), share, count, start)),
                 makers: Makers::default(),
                 notices: listener.map(|listener| Notices::new(listener, Arc::clone(&has_panicked))),

@@ -1,17 +1,20 @@
 //! Calls of the shards, and what is done when the lock of one is released.
 
 use crate::making::Makers;
-use crate::notices::{Left, Notices, locked};
+use crate::notices::{Left, Notices, locked, tell_in_turn};
 use crate::shard::Shard;
 use std::hash::Hash;
 use std::mem::ManuallyDrop;
+use std::ptr;
 use std::sync::atomic::{AtomicUsize, Ordering};
 use std::sync::{Mutex, MutexGuard, TryLockError};
+use std::thread;
 
 /// A shard, what is being made for it, and the notices that its listener still waits for. No two shards share a cache
 /// line.
 #[repr(align(128))]
 pub(super) struct Place<K: 'static, V> {
+    pub index: usize,
     pub shard: Mutex<Shard<K, V>>,
     pub makers: Makers<K, V>,
     pub notices: Option<Notices<K, V>>,
@@ -40,6 +43,15 @@ impl<K: Eq + Hash, V: Clone> Places<K, V> {
             place,
             rest: ManuallyDrop::new(None),
         }
+    }
+
+    // Notifies the listener of what left a shard, or if this thread is in it, when it has returned.
+    fn tell(&self, index: usize) {
+        tell_in_turn(ptr::from_ref(self).addr(), index, |index| {
+            if let Some(notices) = &self.all[index].notices {
+                notices.deliver();
+            }
+        });
     }
 
     // Lets what is due in the next shard leave, if no calls for it do. One whose lock is held has a call.
@@ -118,11 +130,12 @@ impl<'a, K: Eq + Hash, V: Clone> Calls<'a, K, V> {
     #[cold]
     fn finish(&mut self) {
         let rest = self.rest.take().unwrap_or_default();
-        if let (true, Some(notices)) = (rest.is_telling, &self.place.notices) {
-            notices.deliver();
+        if rest.is_telling {
+            self.places.tell(self.place.index);
         }
         drop(rest.left);
-        if rest.is_visiting {
+        // A second panic, in that shard, would end the process.
+        if rest.is_visiting && !thread::panicking() {
             self.places.visit_next();
         }
     }

@@ -1,5 +1,5 @@
 //! Look-ups and removals by a test of the key in place of a key.
-ghost use Rattle.std.specs.Prelude.{◌≡◌, None, Some, false, length, true, option_map};
+ghost use Rattle.std.specs.Prelude.{◌≡◌, Some, length, true, option_map};
 ghost use Rattle.moka_parts.specs.Hashing.{key_hash};
 ghost use Rattle.moka_parts.specs.Calls.{RecordsRead, no_events};
 ghost use Rattle.moka_parts.specs.Copies.{HandsOut, IsEntryCopy};
@@ -9,49 +9,33 @@ ghost use Rattle.moka_parts.specs.Runs.{Befalls};
 ghost use Rattle.moka_parts.specs.Surroundings.{Leads};
 ghost use Rattle.moka_parts.specs.declared.records.ReadOperation.TheVariants.{Hit};
 ghost use Rattle.moka_store.specs.Hashing.{IsIndexHash};
-ghost use Rattle.moka_engine.specs.BaseCache.{NoneExpires};
-ghost use Rattle.moka_engine.specs.Looks.{Finds};
 ghost use Rattle.moka_engine.specs.Makes.{Takes};
 
-use super::gets::{self, Moments};
-use super::{BaseCache, ReadHit, entry_of_record};
-use moka_inner::Inner;
+use super::{BaseCache, Look, ReadHit};
+use moka_inner::Hashes;
 use moka_parts::calls::{Entry, KvEntry, Ticket};
-use moka_parts::closures::{PredicateFn, Weigher};
+use moka_parts::closures::{NoTest, PredicateFn, Weigher};
 use moka_parts::error::OutOfMemory;
 use moka_parts::housekeeper::Clock;
-use moka_parts::invalidator::Invalidator;
 use moka_parts::key_test::KeyTest;
 use moka_parts::notification::Listener;
 use moka_parts::policy::{Expiry, Instant};
-use moka_parts::record_ref::RecordRef;
-use moka_store::{Handle, IndexHash};
+use moka_store::IndexHash;
 use std::hash::{BuildHasher, Hash};
 
-// The record whose key passes, unless a moment hides it or a predicate covers it. The test comes with the hash
-// in the map of the keys that pass.
-#[inline(always)]
-fn find_by<'a, K: Eq + Hash, V, S: BuildHasher, X, P, T: KeyTest<K>>(
-    inner: &'a Inner<K, V, S>,
-    moments: &Moments<'_, X>,
-    invalidator: &Invalidator<P>,
-    sought: (&T, IndexHash),
-) -> Option<(Handle, RecordRef<'a, K, V>)>
-where
-    P: PredicateFn<K, V>,
-    requires lasting { moments.now.policy.now.expiry ≡ None → NoneExpires inner.now.kept.records }
-    requires own { (k : K) → T.passes sought.0.now k ≡ true
-        → IsIndexHash S.BuildHasher S.Hasher.Hasher inner.now.kept.hasher (K.hash_input k) sought.1 }
-    ensures { Finds inner.now.kept moments.entry.now.policy.now moments.entry.now.valid_after.now P.says
-        invalidator.now (record_by (T.passes sought.entry.0.now) inner.now.kept.records) false
-        moments.entry.now.now.0 result }
-{
-    let (test, own) = sought;
-    let (handle, found) = inner.find_by(test, own)?;
-    if moments.hide(&found) || invalidator.apply_predicates(&found) {
-        return None;
+// A key, as the test that it and what is equal to it pass.
+#[derive(Clone, Copy)]
+pub(super) struct SameKey<'a, K>(pub(super) &'a K);
+
+impl<'a, K: Eq + Hash> KeyTest<K> for SameKey<'a, K> {
+    ghost passes = { λ t k. K.eq t.0.now k };
+
+    #[inline(always)]
+    fn is_key(&self, key: &K) -> bool {
+        *self.0 == *key
     }
-    Some((handle, found))
+
+    ghost one_key = { λ t. K.Eq.laws.congr t.0.now };
 }
 
 impl<
@@ -79,9 +63,7 @@ impl<
             → hash ≡ key_hash S.BuildHasher S.Hasher.Hasher self.now.hasher (K.hash_input k) }
         ensures { ContainsByStep P.says (T.passes test.now) self.now.state now.0 result }
     {
-        let moments = self.moments(now);
-        let sought = (test, IndexHash::of(hash));
-        find_by(&self.inner, &moments, &self.invalidator, sought).is_some()
+        self.contains_hashed(test, IndexHash::of(hash), now)
     }
 
     /// As `remove_entry_with_own_hash` of the key that passes. `hash` is that of the keys that do, by the cache's own
@@ -98,10 +80,7 @@ impl<
         ensures step { RemoveByStep (T.passes test.now) self.old.state result self.new.state }
         ensures events { Befalls L.tells no_events self.old self.new }
     {
-        let own = IndexHash::of(hash);
-        let (handle, _) = self.inner.find_by(test, own)?;
-        let (record, ticket) = self.inner.remove(handle, own);
-        Some((entry_of_record(record), ticket))
+        self.remove_hashed(test, IndexHash::of(hash))
     }
 
     /// As `get_with_own_hash` of the key that passes. `hash` is that of the keys that do, by the cache's own hasher.
@@ -129,39 +108,19 @@ impl<
             self.old self.new (λ e. Leads C.reads clock.old e.readings clock.new)) result }
     {
         let own = IndexHash::of(hash);
-        let policy = &self.expiration_policy;
-        let moments = Moments {
-            policy,
-            valid_after: &self.valid_after,
+        let look = Look {
+            test,
+            hashes: Hashes { hash, own },
+            need_key,
             now,
         };
-        let shown = find_by(&self.inner, &moments, &self.invalidator, (test, own));
-        let Some((handle, found)) = shown else {
-            self.record_miss(hash, now, clock);
-            return Ok(None);
-        };
-        let entry = gets::entry_of(&found, need_key)?;
-        let (first_hash, hit) = (found.hash(), gets::hit_of(&found, policy, now));
-        let read = ReadHit {
-            number: handle.number,
-            hash: first_hash,
-            renewed: hit.is_renewed,
-        };
-        self.inner
-            .touch(handle, hit.read, hit.expires, hit.is_renewed);
-        let queued = self.inner.read_count();
-        if self.housekeeper.should_apply_reads(queued, hit.read) {
-            self.record_hit_by((test, own), read, hit.read, clock);
-            return Ok(Some(entry));
-        }
-        self.inner.queue_read(handle.place, read.operation());
-        Ok(Some(entry))
+        self.get_hashed(look, &mut NoTest, clock)
     }
 
     // Makes the run that is due, and queues a hit of the record whose key passes. The run may remove that record, so
     // its place is looked up again.
     #[inline(always)]
-    fn record_hit_by<T: KeyTest<K>, C: Clock>(
+    pub(super) fn record_hit_by<T: KeyTest<K>, C: Clock>(
         &mut self,
         sought: (&T, IndexHash),
         hit: ReadHit,

@@ -1,13 +1,17 @@
 //! What look-ups find, and what a hit changes. moka: `sync::base_cache::BaseCache::do_get_with_hash`.
-ghost use Rattle.std.specs.Prelude.{◌≡◌, Bool, false, None, Some, IfOk, option_map};
+ghost use Rattle.std.specs.Prelude.{◌≡◌, ◌<◌, ◌++◌, ◌∷◌, [], Bool, true, false, None, Some, IfOk, length, nat_lt, option_map, if◌then◌else◌};
 ghost use Rattle.std.specs.Duration.{as_nanos};
+ghost use Rattle.moka_parts.specs.Calls.{queue_length};
 ghost use Rattle.moka_parts.specs.Copies.{IsEntryCopy};
 ghost use Rattle.moka_parts.specs.Expiry.{time_left};
-ghost use Rattle.moka_parts.specs.Records.{record_of_key};
+ghost use Rattle.moka_parts.specs.Housekeeping.{is_due};
+ghost use Rattle.moka_parts.specs.KeyTests.{record_by};
 ghost use Rattle.moka_parts.specs.Surroundings.{IsAskedOnce};
 ghost use Rattle.moka_parts.specs.Time.{moment_of};
 ghost use Rattle.moka_parts.specs.Visibility.{has_lapsed as lapsed};
+ghost use Rattle.moka_parts.specs.declared.records.ReadOperation.TheVariants as read_operation;
 ghost use Rattle.moka_store.specs.Hashing.{IsIndexHash};
+ghost use Rattle.moka_store.specs.Store.{ChangesRecord, ExpiresAsBefore, IsHandle};
 ghost use Rattle.moka_engine.specs.BaseCache.{NoneExpires, expiring_by};
 ghost use Rattle.moka_engine.specs.Looks.{Finds, Touches, entry_at, value_of};
 
@@ -16,9 +20,12 @@ use moka_parts::calls::Entry;
 use moka_parts::closures::{NoTest, PredicateFn, ValueTest};
 use moka_parts::error::OutOfMemory;
 use moka_parts::expiry::{has_lapsed, remaining, renewed};
+use moka_parts::housekeeper::Housekeeper;
 use moka_parts::invalidator::Invalidator;
+use moka_parts::key_test::KeyTest;
 use moka_parts::policy::{ExpirationPolicy, Expiry, Instant};
 use moka_parts::record_ref::RecordRef;
+use moka_parts::records::ReadOperation;
 use moka_store::{Handle, IndexHash};
 use std::hash::{BuildHasher, Hash};
 use std::time::Duration;
@@ -46,31 +53,35 @@ impl<'a, X> Moments<'a, X> {
     }
 }
 
-// The record of the key sought, which comes with its hash in the map; none if the caller's test, which is asked of its
-// value first, ignores it, a moment hides it or a predicate covers it.
+// The record of the key that passes, which comes with its hash in the map; none if the caller's test, which is asked of
+// its value first, ignores it, a moment hides it or a predicate covers it.
 #[inline(always)]
-pub(super) fn find_unless<'a, K: Eq + Hash, V, S: BuildHasher, X, P, I: ValueTest<V>>(
+pub(super) fn find_unless<'a, K: Eq + Hash, V, S: BuildHasher, X, P, T, I: ValueTest<V>>(
     inner: &'a Inner<K, V, S>,
     moments: &Moments<'_, X>,
     invalidator: &Invalidator<P>,
-    sought: (&K, IndexHash),
-    test: &mut I,
+    sought: (&T, IndexHash),
+    ignore_if: &mut I,
 ) -> Option<(Handle, RecordRef<'a, K, V>)>
 where
     P: PredicateFn<K, V>,
-    requires own { IsIndexHash S.BuildHasher S.Hasher.Hasher inner.now.kept.hasher
-        (K.hash_input sought.0.now) sought.1 }
+    T: KeyTest<K>,
+    requires own { (k : K) → T.passes sought.0.now k ≡ true
+        → IsIndexHash S.BuildHasher S.Hasher.Hasher inner.now.kept.hasher (K.hash_input k) sought.1 }
     requires lasting { moments.now.policy.now.expiry ≡ None → NoneExpires inner.now.kept.records }
-    requires askable { (v : V) → I.can_ask test.old v }
+    requires askable { (v : V) → I.can_ask ignore_if.old v }
     ensures { (ignored : Bool)
-        × IsAskedOnce I.asks (Some test.old)
-        (value_of (record_of_key K.eq inner.now.kept.records sought.entry.0.now)) ignored (Some test.new)
+        × IsAskedOnce I.asks (Some ignore_if.old)
+        (value_of (record_by (T.passes sought.entry.0.now) inner.now.kept.records)) ignored (Some ignore_if.new)
         × Finds inner.now.kept moments.entry.now.policy.now moments.entry.now.valid_after.now P.says invalidator.now
-        (record_of_key K.eq inner.now.kept.records sought.entry.0.now) ignored moments.entry.now.now.0 result }
+        (record_by (T.passes sought.entry.0.now) inner.now.kept.records) ignored moments.entry.now.now.0 result }
 {
-    let (key, own) = sought;
-    let (handle, found) = inner.find(key, own)?;
-    if test.ignores(found.value()) || moments.hide(&found) || invalidator.apply_predicates(&found) {
+    let (test, own) = sought;
+    let (handle, found) = inner.find_by(test, own)?;
+    if ignore_if.ignores(found.value())
+        || moments.hide(&found)
+        || invalidator.apply_predicates(&found)
+    {
         return None;
     }
     Some((handle, found))
@@ -78,20 +89,20 @@ where
 
 // The same without a test of the caller's.
 #[inline(always)]
-pub(super) fn find_shown<'a, K: Eq + Hash, V, S: BuildHasher, X, P>(
+pub(super) fn find_shown<'a, K: Eq + Hash, V, S: BuildHasher, X, P, T: KeyTest<K>>(
     inner: &'a Inner<K, V, S>,
     moments: &Moments<'_, X>,
     invalidator: &Invalidator<P>,
-    sought: (&K, IndexHash),
+    sought: (&T, IndexHash),
 ) -> Option<(Handle, RecordRef<'a, K, V>)>
 where
     P: PredicateFn<K, V>,
-    requires own { IsIndexHash S.BuildHasher S.Hasher.Hasher inner.now.kept.hasher
-        (K.hash_input sought.0.now) sought.1 }
+    requires own { (k : K) → T.passes sought.0.now k ≡ true
+        → IsIndexHash S.BuildHasher S.Hasher.Hasher inner.now.kept.hasher (K.hash_input k) sought.1 }
     requires lasting { moments.now.policy.now.expiry ≡ None → NoneExpires inner.now.kept.records }
     ensures { Finds inner.now.kept moments.entry.now.policy.now moments.entry.now.valid_after.now P.says
-        invalidator.now (record_of_key K.eq inner.now.kept.records sought.entry.0.now) false moments.entry.now.now.0
-        result }
+        invalidator.now (record_by (T.passes sought.entry.0.now) inner.now.kept.records) false
+        moments.entry.now.now.0 result }
 {
     find_unless(inner, moments, invalidator, sought, &mut NoTest)
 }
@@ -132,6 +143,42 @@ pub(super) fn hit_of<K, V, X: Expiry<K, V>>(
         expires,
         is_renewed,
     }
+}
+
+// Notes a hit in its record, which has this first hash, and queues it unless a run is due first. Whether one is.
+#[inline(always)]
+pub(super) fn note_hit<K: Eq + Hash, V, S: BuildHasher>(
+    inner: &mut Inner<K, V, S>,
+    housekeeper: &Housekeeper,
+    handle: Handle,
+    hash: u64,
+    hit: Hit,
+) -> bool
+    requires handle { IsHandle inner.old.kept handle }
+    requires given { handle.number < inner.old.next_number }
+    requires expires { ExpiresAsBefore inner.old.kept handle.number hit.expires hit.is_renewed }
+    ensures due { result ≡ is_due housekeeper.now.housekeeping (length inner.old.reads) hit.read.0 }
+    ensures step { ChangesRecord handle.number (λ r. record r { read = hit.read; expires = hit.expires })
+        inner.old.kept inner.new.kept }
+    ensures waits { result ≡ true → inner.new ≡ record inner.old { kept = inner.new.kept } }
+    ensures queued { result ≡ false → inner.new ≡ record inner.old {
+      kept = inner.new.kept;
+      reads = if nat_lt (length inner.old.reads) queue_length
+          then inner.old.reads ++ read_operation.Hit handle.number hash hit.is_renewed ∷ [] else inner.old.reads;
+    } }
+{
+    inner.touch(handle, hit.read, hit.expires, hit.is_renewed);
+    let queued = inner.read_count();
+    if housekeeper.should_apply_reads(queued, hit.read) {
+        return true;
+    }
+    let read = ReadOperation::Hit {
+        number: handle.number,
+        hash,
+        renewed: hit.is_renewed,
+    };
+    inner.queue_read(handle.place, read);
+    false
 }
 
 // How long a record still lasts at a moment. Caches without an expiry ask nothing of it.

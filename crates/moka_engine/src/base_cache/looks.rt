@@ -1,16 +1,18 @@
 //! Look-ups with a caller's test, and look-ups that record nothing.
 //! moka: `sync::base_cache::BaseCache`, `common::concurrent::ScanningGet`.
-ghost use Rattle.std.specs.Prelude.{Bool, Some};
+ghost use Rattle.std.specs.Prelude.{◌≡◌, Bool, Some, true};
 ghost use Rattle.moka_parts.specs.Calls.{GetStep, PeekStep, ScanStep, no_events};
 ghost use Rattle.moka_parts.specs.Closures.{CanAskIfGiven, test_given, test_left};
 ghost use Rattle.moka_parts.specs.Copies.{HandsOut, IsEntryCopy};
+ghost use Rattle.moka_parts.specs.KeyTests.{record_by};
 ghost use Rattle.moka_parts.specs.Records.{record_of_key};
 ghost use Rattle.moka_parts.specs.Runs.{Befalls};
 ghost use Rattle.moka_parts.specs.Surroundings.{IsAskedOnce, Leads};
 ghost use Rattle.moka_store.specs.Hashing.{IsIndexHash};
-ghost use Rattle.moka_engine.specs.Looks.{value_of};
+ghost use Rattle.moka_engine.specs.Looks.{LooksUp, value_of};
 ghost use Rattle.moka_engine.specs.Makes.{Takes};
 
+use super::by_key_test::SameKey;
 use super::gets::{self, Moments};
 use super::{BaseCache, Look, ReadHit};
 use moka_inner::Hashes;
@@ -18,6 +20,7 @@ use moka_parts::calls::Entry;
 use moka_parts::closures::{NoTest, PredicateFn, ValueTest, Weigher};
 use moka_parts::error::OutOfMemory;
 use moka_parts::housekeeper::Clock;
+use moka_parts::key_test::KeyTest;
 use moka_parts::notification::Listener;
 use moka_parts::policy::{Expiry, Instant};
 use std::hash::{BuildHasher, Hash};
@@ -63,7 +66,7 @@ impl<
             Some(test) => {
                 let own = self.inner.index_hash(key);
                 let look = Look {
-                    key,
+                    test: &SameKey(key),
                     hashes: Hashes { hash, own },
                     need_key,
                     now,
@@ -74,32 +77,32 @@ impl<
         }
     }
 
-    // A look-up that is recorded. The test may ignore what it finds.
+    // A look-up that is recorded, of the key that passes. The caller's test may ignore what it finds.
     #[inline(always)]
-    pub(super) fn get_hashed<I: ValueTest<V>, C: Clock>(
+    pub(super) fn get_hashed<T: KeyTest<K>, I: ValueTest<V>, C: Clock>(
         &mut self,
-        look: Look<'_, K>,
-        test: &mut I,
+        look: Look<'_, T>,
+        ignore_if: &mut I,
         clock: &mut C,
     ) -> Result<Option<Entry<K, V>>, OutOfMemory>
     where
         K: Clone + Drop,
         V: Clone + Drop,
         P: Drop,
-        requires own { IsIndexHash S.BuildHasher S.Hasher.Hasher self.old.hasher
-            (K.hash_input look.key.now) look.hashes.own }
-        requires askable { (v : V) → I.can_ask test.old v }
+        requires own { (k : K) → T.passes look.test.now k ≡ true
+            → IsIndexHash S.BuildHasher S.Hasher.Hasher self.old.hasher (K.hash_input k) look.hashes.own }
+        requires askable { (v : V) → I.can_ask ignore_if.old v }
         ensures { (ignored : Bool)
-            × IsAskedOnce I.asks (Some test.old)
-            (value_of (record_of_key K.eq self.old.state.records look.entry.key.now)) ignored (Some test.new)
+            × IsAskedOnce I.asks (Some ignore_if.old)
+            (value_of (record_by (T.passes look.entry.test.now) self.old.state.records)) ignored (Some ignore_if.new)
             × HandsOut (IsEntryCopy K.is_clone V.is_clone)
             (λ own. Takes P.says X.read L.tells
-            (λ Runs s. GetStep P.says X.read Runs K.eq s look.entry.key.now look.entry.hashes.hash look.entry.need_key
-            ignored look.entry.now.0 own)
+            (λ Runs s. LooksUp P.says X.read (record_by (T.passes look.entry.test.now)) look.entry.hashes.hash
+            look.entry.need_key ignored look.entry.now.0 Runs s own)
             self.old self.new (λ e. Leads C.reads clock.old e.readings clock.new)) result }
     {
         let Look {
-            key,
+            test,
             hashes,
             need_key,
             now,
@@ -110,27 +113,23 @@ impl<
             valid_after: &self.valid_after,
             now,
         };
-        let sought = (key, hashes.own);
-        let shown = gets::find_unless(&self.inner, &moments, &self.invalidator, sought, test);
+        let sought = (test, hashes.own);
+        let shown = gets::find_unless(&self.inner, &moments, &self.invalidator, sought, ignore_if);
         let Some((handle, found)) = shown else {
             self.record_miss(hashes.hash, now, clock);
             return Ok(None);
         };
         let entry = gets::entry_of(&found, need_key)?;
         let (hash, hit) = (found.hash(), gets::hit_of(&found, policy, now));
-        let read = ReadHit {
-            number: handle.number,
-            hash,
-            renewed: hit.is_renewed,
-        };
-        self.inner
-            .touch(handle, hit.read, hit.expires, hit.is_renewed);
-        let queued = self.inner.read_count();
-        if self.housekeeper.should_apply_reads(queued, hit.read) {
-            self.record_hit_when_due(key, read, hit.read, clock);
+        if gets::note_hit(&mut self.inner, &self.housekeeper, handle, hash, hit) {
+            let read = ReadHit {
+                number: handle.number,
+                hash,
+                renewed: hit.is_renewed,
+            };
+            self.record_hit_by(sought, read, hit.read, clock);
             return Ok(Some(entry));
         }
-        self.inner.queue_read(handle.place, read.operation());
         Ok(Some(entry))
     }
 
@@ -187,7 +186,7 @@ impl<
             valid_after: &self.valid_after,
             now,
         };
-        let sought = (key, own);
+        let sought = (&SameKey(key), own);
         let shown = gets::find_unless(&self.inner, &moments, &self.invalidator, sought, test);
         let Some((handle, found)) = shown else {
             return Ok(None);
@@ -210,7 +209,7 @@ impl<
         ensures { HandsOut V.is_clone (ScanStep P.says K.eq self.now.state key.now now.0) result }
     {
         let moments = self.moments(now);
-        let sought = (key, self.inner.index_hash(key));
+        let sought = (&SameKey(key), self.inner.index_hash(key));
         let shown = gets::find_shown(&self.inner, &moments, &self.invalidator, sought);
         let Some((_, found)) = shown else {
             return Ok(None);

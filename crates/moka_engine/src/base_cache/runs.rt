@@ -4,8 +4,7 @@ ghost use Rattle.std.specs.Duration.{as_nanos};
 ghost use Rattle.std.specs.FinMap as finite;
 ghost use Rattle.moka_parts.specs.Calls.{KeeperRun, RecordsRead, RunsIfDue, no_events};
 ghost use Rattle.moka_parts.specs.Exact.{IsExact};
-ghost use Rattle.moka_parts.specs.Housekeeping.{is_due, without_automatic};
-ghost use Rattle.moka_parts.specs.Records.{record_of_key};
+ghost use Rattle.moka_parts.specs.Housekeeping.{without_automatic};
 ghost use Rattle.moka_parts.specs.Runs.{Befalls};
 ghost use Rattle.moka_parts.specs.Settling.{IsValid, leaves_more_idle};
 ghost use Rattle.moka_parts.specs.State.{is_disabled};
@@ -13,10 +12,10 @@ ghost use Rattle.moka_parts.specs.Surroundings.{Leads};
 ghost use Rattle.moka_parts.specs.Time.{greatest};
 ghost use Rattle.moka_parts.specs.declared.calls.Call.TheVariants as call;
 ghost use Rattle.moka_parts.specs.declared.calls.Reply.TheVariants as reply;
-ghost use Rattle.moka_parts.specs.declared.records.ReadOperation.TheVariants.{Hit, Miss};
+ghost use Rattle.moka_parts.specs.declared.records.ReadOperation.TheVariants.{Miss};
 ghost use Rattle.moka_engine.specs.Makes.{Makes, Takes, meaning};
 
-use super::{BaseCache, ReadHit};
+use super::BaseCache;
 use moka_maintenance::bounds::Bounds;
 use moka_maintenance::passes::Terms;
 use moka_maintenance::sweep::Tests;
@@ -163,31 +162,6 @@ impl<
         }
         self.apply_reads_if_needed(now, clock);
         self.inner.queue_read(0, ReadOperation::Miss { hash });
-    }
-
-    // Makes the run that is due, and queues a hit of the key's record. The run may remove that record, so its place is
-    // looked up again.
-    #[inline(always)]
-    pub(super) fn record_hit_when_due<C: Clock>(
-        &mut self,
-        key: &K,
-        hit: ReadHit,
-        now: Instant,
-        clock: &mut C,
-    )
-    where
-        K: Drop,
-        V: Drop,
-        P: Drop,
-        requires due { is_due self.old.state.housekeeping (length self.old.state.reads) now.0 ≡ true }
-        requires found { option_map (λ r. r.number)
-            (record_of_key K.eq self.old.state.records key.now) ≡ Some hit.number }
-        ensures { Takes P.says X.read L.tells
-            (λ Runs s. RecordsRead Runs s now.0 (Hit hit.number hit.hash hit.renewed)) self.old self.new
-            (λ e. Leads C.reads clock.old e.readings clock.new) }
-    {
-        self.run_by_housekeeper(now, clock);
-        self.inner.queue_hit(key, hit.number, hit.hash, hit.renewed);
     }
 
     // A run that the housekeeper makes.

@@ -44,7 +44,8 @@ impl<K: Eq + Hash, V, S: BuildHasher> Inner<K, V, S> {
 
     /// Queues a hit of the record of this number, whose key passes and which may have left the map since. Its place is
     /// looked up by the test, which comes with the hash of the keys that pass.
-    #[cold]
+    // Inlined although it is rare: a call would have every hit store its test in memory.
+    #[inline(always)]
     pub fn queue_hit_by<T: KeyTest<K>>(
         &mut self,
         sought: (&T, IndexHash),

@@ -7,7 +7,7 @@ ghost use Rattle.moka_store.specs.Hashing.{IsIndexHash};
 ghost use Rattle.moka_store.specs.Store.{IsHandle};
 ghost use Rattle.moka_store.specs.StoreRows.{passes_at};
 
-use super::{Handle, IndexHash, Store};
+use super::{Handle, IndexHash, Store, changes};
 use crate::table::RecordTable;
 use moka_parts::key_test::KeyTest;
 use moka_parts::record_ref::RecordRef;
@@ -51,10 +51,6 @@ impl<K: Eq + Hash, V, S: BuildHasher> Store<K, V, S> {
         let table = &self.table;
         let is_match = |place| is_key_at(table, place, test);
         let place = self.index.find(hash.0, is_match)?;
-        let Some((number, stored)) = table.live(place) else {
-            unreachable!()
-        };
-        let handle = Handle { number, place };
-        Some((handle, stored))
+        Some(changes::live_at(table, place))
     }
 }

@@ -3,13 +3,13 @@ ghost use Rattle.std.specs.Prelude.{◌≡◌, ◌^◌, ◌<◌, ◌≤◌, IsOk
 ghost use Rattle.moka_store.specs.StoreRows.{has_key_at, member_in, row_room, timer_at, written_at};
 ghost use Rattle.moka_parts.specs.declared.records.Record.{Record};
 ghost use Rattle.moka_parts.specs.Records.{member};
-ghost use Rattle.moka_store.specs.RecordTable.{Row};
-ghost use Rattle.moka_store.specs.RecordTable.{row_at, stored_at};
+ghost use Rattle.moka_store.specs.RecordTable.{Row, number_at, row_at, stored_at};
 ghost use Rattle.moka_store.specs.Slots.{IsSlot};
 
 use super::Handle;
 use crate::table::RecordTable;
 use moka_parts::policy::Instant;
+use moka_parts::record_ref::RecordRef;
 use std::alloc::AllocError;
 
 /// A place in the index has 32 bits.
@@ -55,6 +55,23 @@ pub(crate) fn has_key<K: Eq, V>(table: &RecordTable<K, V>, place: usize, key: &K
     ensures { result ≡ has_key_at K.eq table.now.rows key.now place }
 {
     table.key(place).is_some_and(|own| *key == *own)
+}
+
+// The handle of the record at this place, and that record.
+#[inline(always)]
+pub(crate) fn live_at<K, V>(
+    table: &RecordTable<K, V>,
+    place: usize,
+) -> (Handle, RecordRef<'_, K, V>)
+    requires { IsSome (stored_at table.now.rows place) }
+    ensures place { result.0.place ≡ place }
+    ensures number { result.0.number ≡ number_at table.now.rows place }
+    ensures stored { Some result.1 ≡ stored_at table.now.rows place }
+{
+    let Some((number, stored)) = table.live(place) else {
+        unreachable!()
+    };
+    (Handle { number, place }, stored)
 }
 
 // The handle of the row at this place, with its counted weight.

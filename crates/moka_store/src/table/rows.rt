@@ -1,6 +1,7 @@
 //! The rows of the table, by place. Of their numbers nothing is known, and their memberships have no weight.
 ghost use Rattle.std.specs.Prelude.{◌≡◌, ◌≢◌, ◌+◌, ◌<◌, ◌≤◌, [], false, length, count_by, is_some, IfSome, IsOk, IsSome, OnOk, None, Some, option_copied};
 ghost use Rattle.std.specs.Option.{option_and_then, option_map};
+ghost use Rattle.slab.specs.Entry.{value_of};
 ghost use Rattle.moka_parts.specs.declared.record_ref.Front.{Front};
 ghost use Rattle.moka_store.specs.RecordTable.{row_at, number_at, stored_at, membership_at, ChangesAt, ChangesRow, with_stored};
 ghost use Rattle.moka_store.specs.Slots.{counted_as, IsSlot, HasSlots};
@@ -112,12 +113,20 @@ impl<K, V> Rows<K, V> {
         place
     }
 
+    // What stands at this place, if it is one.
+    #[inline(always)]
+    fn slot(&self, place: usize) -> Option<&Slot<K, V>>
+        ensures { option_and_then value_of (option_copied result) ≡ row_at self.now.rows place }
+    {
+        self.slots.get(place)
+    }
+
     /// The number of the row at this place.
     #[inline(always)]
     pub(crate) fn number(&self, place: usize) -> Option<u64>
         ensures { result ≡ option_map (λ row. row.number) (row_at self.now.rows place) }
     {
-        self.slots.get(place)?.number()
+        self.slot(place)?.number()
     }
 
     /// The number and the record at this place, if the record is in the map.
@@ -126,7 +135,7 @@ impl<K, V> Rows<K, V> {
         ensures number { IfSome result (λ f. f.0 ≡ number_at self.now.rows place) }
         ensures stored { option_map (λ f. front_of f.1) result ≡ stored_at self.now.rows place }
     {
-        self.slots.get(place)?.live()
+        self.slot(place)?.live()
     }
 
     /// The key of the record at this place, if the record is in the map.
@@ -134,7 +143,7 @@ impl<K, V> Rows<K, V> {
     pub(crate) fn key(&self, place: usize) -> Option<&K>
         ensures { option_copied result ≡ option_map (λ f. f.hot.key) (stored_at self.now.rows place) }
     {
-        self.slots.get(place)?.key()
+        self.slot(place)?.key()
     }
 
     /// The membership of the row at this place, with no weight.
@@ -143,7 +152,7 @@ impl<K, V> Rows<K, V> {
         ensures membership { result ≡ membership_at self.now.rows place }
         ensures slots { IfSome result HasSlots }
     {
-        self.slots.get(place)?.membership()
+        self.slot(place)?.membership()
     }
 
     /// The slot among the timers of the row at this place.
@@ -152,7 +161,7 @@ impl<K, V> Rows<K, V> {
         ensures timer { result ≡ option_and_then (λ row. row.timer) (row_at self.now.rows place) }
         ensures slot { IsSlot result }
     {
-        self.slots.get(place)?.timer()
+        self.slot(place)?.timer()
     }
 
     /// The record at this place was read at this moment, and now expires by itself or does not: as before, unless that

@@ -14,6 +14,7 @@ use crate::engine::moka_parts::invalidator::{IdSource, PredicateId};
 use crate::engine::moka_parts::notification::{Listener, NoListener};
 use crate::engine::moka_parts::policy::{Expiry, Instant, NoExpiry, Policy};
 use crate::support::alloc::Global;
+use std::convert::Infallible;
 use crate::support::hash::{BuildHasher, Hash};
 
 mod by_key_test;
@@ -275,15 +276,7 @@ impl<
         K: Clone,
         V: Clone,
     {
-        let hash = self.engine.hash(&key);
-        match self.get_hashed(&key, hash, now, clock) {
-            Ok(Some(value)) => return Ok(value),
-            Ok(None) => {}
-            Err(_) => return Err(GetWithRefused::Lookup(key)),
-        }
-        self.count_load();
-        let value = init();
-        Ok(self.insert_made_hashed(Put { key, hash, value }, now, clock)?)
+        always_made(self.try_get_with(key, || Ok(init()), now, clock))
     }
 
     /// As `get_with`, for a maker that may decline: then nothing is inserted, and `None` is answered.
@@ -301,23 +294,14 @@ impl<
         K: Clone,
         V: Clone,
     {
-        let hash = self.engine.hash(&key);
-        match self.get_hashed(&key, hash, now, clock) {
-            Ok(Some(value)) => return Ok(Some(value)),
-            Ok(None) => {}
-            Err(_) => return Err(GetWithRefused::Lookup(key)),
-        }
-        self.count_load();
-        let Some(value) = init() else {
-            return Ok(None);
-        };
-        Ok(Some(self.insert_made_hashed(Put { key, hash, value }, now, clock)?))
+        if_made(self.try_get_with(key, || init().ok_or(()), now, clock))
     }
 
     /// As `get_with`, for a maker that may fail: then nothing is inserted, and its error is answered.
     ///
     /// # Errors
     /// The outer error as `get_with`; the inner one is the maker's.
+    #[inline(always)]
     pub fn try_get_with<E, F: FnOnce() -> Result<V, E>, C: Clock>(
         &mut self,
         key: K,
@@ -476,6 +460,23 @@ fn value_of<K, V>(
     match entry? {
         Some(entry) => Ok(Some(entry.into_value())),
         None => Ok(None),
+    }
+}
+
+// What a maker that may decline answers, of one that fails in place of declining.
+#[inline(always)]
+pub(crate) fn if_made<A, E>(answer: Result<Result<A, ()>, E>) -> Result<Option<A>, E>
+{
+    Ok(answer?.ok())
+}
+
+// What a maker that never fails answers.
+#[inline(always)]
+pub(crate) fn always_made<A, E>(answer: Result<Result<A, Infallible>, E>) -> Result<A, E>
+{
+    match answer? {
+        Ok(made) => Ok(made),
+        Err(never) => match never {},
     }
 }
 

@@ -4,7 +4,7 @@
 //! `cache.entry(key).or_insert(value, ..)` is `cache.get_or_insert(key, value, ..)`, and so on: each call names moka's.
 use crate::support::prelude::*;
 
-use crate::engine::moka_drive::cache::{Cache, Put};
+use crate::engine::moka_drive::cache::{Cache, Put, always_made, if_made};
 use crate::engine::moka_drive::error::GetWithRefused;
 use crate::engine::moka_parts::closures::{PredicateFn, Weigher};
 use crate::engine::moka_parts::error::{InsertError, InsertRefused};
@@ -83,15 +83,7 @@ impl<
         K: Clone,
         V: Clone,
     {
-        let hash = self.engine().hash(&key);
-        match self.get_hashed(&key, hash, now, clock) {
-            Ok(Some(value)) => return Ok(found(key, value)),
-            Ok(None) => {}
-            Err(_) => return Err(GetWithRefused::Lookup(key)),
-        }
-        self.count_load();
-        let value = init();
-        Ok(self.insert_entry(Put { key, hash, value }, false, now, clock)?)
+        always_made(self.get_or_try_insert_with(key, || Ok(init()), now, clock))
     }
 
     /// As `get_or_insert_with`, for a maker that may decline: then nothing is inserted, and `None` is answered. moka:
@@ -110,17 +102,7 @@ impl<
         K: Clone,
         V: Clone,
     {
-        let hash = self.engine().hash(&key);
-        match self.get_hashed(&key, hash, now, clock) {
-            Ok(Some(value)) => return Ok(Some(found(key, value))),
-            Ok(None) => {}
-            Err(_) => return Err(GetWithRefused::Lookup(key)),
-        }
-        self.count_load();
-        let Some(value) = init() else {
-            return Ok(None);
-        };
-        Ok(Some(self.insert_entry(Put { key, hash, value }, false, now, clock)?))
+        if_made(self.get_or_try_insert_with(key, || init().ok_or(()), now, clock))
     }
 
     /// As `get_or_insert_with`, for a maker that may fail: then nothing is inserted, and its error is answered. moka:
@@ -128,6 +110,7 @@ impl<
     ///
     /// # Errors
     /// The outer error as `get_or_insert_with`; the inner one is the maker's.
+    #[inline(always)]
     pub fn get_or_try_insert_with<E, F: FnOnce() -> Result<V, E>, C: Clock>(
         &mut self,
         key: K,

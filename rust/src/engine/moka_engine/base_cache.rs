@@ -2,6 +2,7 @@
 //! The cache. moka: `sync::base_cache`.
 use crate::support::prelude::*;
 
+use self::by_key_test::SameKey;
 use self::gets::Moments;
 use crate::engine::moka_inner::{Hashes, Inner, Layout};
 use crate::engine::moka_parts::calls::{Entry, KvEntry, Ticket};
@@ -9,9 +10,10 @@ use crate::engine::moka_parts::closures::{NoTest, PredicateFn, Weigher};
 use crate::engine::moka_parts::error::{CapacityError, InsertRefused, OutOfMemory, SendError};
 use crate::engine::moka_parts::housekeeper::{Clock, Housekeeper, HousekeeperConfig};
 use crate::engine::moka_parts::invalidator::Invalidator;
+use crate::engine::moka_parts::key_test::KeyTest;
 use crate::engine::moka_parts::notification::{Listener, RemovalNotifier};
 use crate::engine::moka_parts::policy::{EvictionPolicy, ExpirationPolicy, Expiry, Instant, Policy};
-use crate::engine::moka_parts::records::{ReadOperation, Record};
+use crate::engine::moka_parts::records::Record;
 use crate::engine::moka_store::{IndexHash, Update};
 use crate::support::alloc::Global;
 use crate::support::hash::{BuildHasher, Hash};
@@ -35,9 +37,10 @@ pub use snapshot::{Snapshot, SnapshotEntry};
 // How many segments the map has.
 const SEGMENTS: usize = 1;
 
-// What a get looks up: a key with its hashes, whether its own key is to be cloned, and when.
-struct Look<'a, K> {
-    key: &'a K,
+// What a get looks up: what only its key passes, with the key's hashes, whether the record's own key is to be cloned, and
+// when.
+struct Look<'a, T> {
+    test: &'a T,
     hashes: Hashes,
     need_key: bool,
     now: Instant,
@@ -49,24 +52,6 @@ struct ReadHit {
     number: u64,
     hash: u64,
     renewed: bool,
-}
-
-impl ReadHit {
-    // The read to queue.
-    #[inline(always)]
-    fn operation(self) -> ReadOperation
-    {
-        let ReadHit {
-            number,
-            hash,
-            renewed,
-        } = self;
-        ReadOperation::Hit {
-            number,
-            hash,
-            renewed,
-        }
-    }
 }
 
 /// A cache. moka: `sync::base_cache::BaseCache`.
@@ -358,7 +343,7 @@ impl<
     pub fn remove_entry(&mut self, key: &K, _hash: u64) -> Option<(KvEntry<K, V>, Ticket)>
     {
         let own = self.inner.index_hash(key);
-        self.remove_hashed(key, own)
+        self.remove_hashed(&SameKey(key), own)
     }
 
     /// As `remove_entry`, given the key's hash by the cache's own hasher (`hash`), so the key is not hashed again.
@@ -368,13 +353,17 @@ impl<
         hash: u64,
     ) -> Option<(KvEntry<K, V>, Ticket)>
     {
-        self.remove_hashed(key, IndexHash::of(hash))
+        self.remove_hashed(&SameKey(key), IndexHash::of(hash))
     }
 
-    // A removal of a key with its hash in the map.
-    fn remove_hashed(&mut self, key: &K, own: IndexHash) -> Option<(KvEntry<K, V>, Ticket)>
+    // A removal of the key that passes, with its hash in the map.
+    fn remove_hashed<T: KeyTest<K>>(
+        &mut self,
+        test: &T,
+        own: IndexHash,
+    ) -> Option<(KvEntry<K, V>, Ticket)>
     {
-        let (handle, _) = self.inner.find(key, own)?;
+        let (handle, _) = self.inner.find_by(test, own)?;
         let (record, ticket) = self.inner.remove(handle, own);
         Some((entry_of_record(record), ticket))
     }
@@ -414,21 +403,21 @@ impl<
     pub fn contains_key_with_hash(&self, key: &K, _hash: u64, now: Instant) -> bool
     {
         let own = self.inner.index_hash(key);
-        self.contains_hashed(key, own, now)
+        self.contains_hashed(&SameKey(key), own, now)
     }
 
     /// As `contains_key_with_hash`, given the key's hash by the cache's own hasher (`hash`), so the key is not hashed
     /// again.
     pub fn contains_key_with_own_hash(&self, key: &K, hash: u64, now: Instant) -> bool
     {
-        self.contains_hashed(key, IndexHash::of(hash), now)
+        self.contains_hashed(&SameKey(key), IndexHash::of(hash), now)
     }
 
-    // The same with the key's hash in the map.
-    fn contains_hashed(&self, key: &K, own: IndexHash, now: Instant) -> bool
+    // The same of the key that passes, with its hash in the map.
+    fn contains_hashed<T: KeyTest<K>>(&self, test: &T, own: IndexHash, now: Instant) -> bool
     {
         let moments = self.moments(now);
-        gets::find_shown(&self.inner, &moments, &self.invalidator, (key, own)).is_some()
+        gets::find_shown(&self.inner, &moments, &self.invalidator, (test, own)).is_some()
     }
 
     // What hides records at the moment `now`, but for predicates.
@@ -491,7 +480,7 @@ impl<
     {
         let own = self.inner.index_hash(key);
         let look = Look {
-            key,
+            test: &SameKey(key),
             hashes: Hashes { hash, own },
             need_key,
             now,
@@ -516,14 +505,7 @@ impl<
         K: Clone,
         V: Clone,
     {
-        let own = IndexHash::of(hash);
-        let look = Look {
-            key,
-            hashes: Hashes { hash, own },
-            need_key,
-            now,
-        };
-        self.get_hashed(look, &mut NoTest, clock)
+        self.get_by(&SameKey(key), hash, need_key, now, clock)
     }
 }
 

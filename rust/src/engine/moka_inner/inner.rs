@@ -121,11 +121,10 @@ impl<K: Eq + Hash, V, S: BuildHasher> Inner<K, V, S> {
         if !self.has_tickets(1) {
             return Err(InsertError::NumbersUsedUp);
         }
-        let records = self.store.record_count();
-        if self.store.reserve(1).is_err() || self.outstanding.reserve(records + 2).is_err() {
+        if self.store.reserve(1).is_err() {
             return Err(InsertError::OutOfMemory);
         }
-        Ok(())
+        self.reserve_operations(2)
     }
 
     /// Makes room for one more operation, and changes nothing where there is room.
@@ -135,8 +134,15 @@ impl<K: Eq + Hash, V, S: BuildHasher> Inner<K, V, S> {
         if !self.has_tickets(0) {
             return Err(InsertError::NumbersUsedUp);
         }
+        self.reserve_operations(1)
+    }
+
+    // Makes room for so many more operations, where the tickets last for them.
+    #[inline(always)]
+    fn reserve_operations(&mut self, additional: usize) -> Result<(), InsertError>
+    {
         let records = self.store.record_count();
-        if self.outstanding.reserve(records + 1).is_err() {
+        if self.outstanding.reserve(records + additional).is_err() {
             return Err(InsertError::OutOfMemory);
         }
         Ok(())
@@ -240,22 +246,6 @@ impl<K: Eq + Hash, V, S: BuildHasher> Inner<K, V, S> {
         // A row's place has 32 bits.
         let place = (place % MOST_PLACES) as u32;
         let _full = self.reads.try_push_back(QueuedRead::new(read, place));
-    }
-
-    /// Queues a hit of the record of this number, which was the key's and may have left the map since. Its place is
-    /// looked up by the key.
-    #[cold]
-    pub fn queue_hit(&mut self, key: &K, number: u64, hash: u64, renewed: bool)
-    {
-        let read = ReadOperation::Hit {
-            number,
-            hash,
-            renewed,
-        };
-        match self.store.find_by_key(key, self.index_hash(key)) {
-            Some((Handle { place, .. }, _)) => self.queue_read(place, read),
-            None => self.queue_read(0, read),
-        }
     }
 
     /// Applies all queued reads, and then all queued writes in order. Then the sketch comes on where it is due.

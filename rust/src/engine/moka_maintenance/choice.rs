@@ -81,10 +81,13 @@ fn frequency_of<K: Eq + Hash, V, S: BuildHasher>(
     handle: Handle,
 ) -> Option<u8>
 {
-    match store.find(handle) {
-        Some(found) if found.is_settled() => Some(sketch.frequency(found.hash())),
-        _ => None,
+    let Some(found) = store.find(handle) else {
+        return None;
+    };
+    if !found.is_settled() {
+        return None;
     }
+    Some(sketch.frequency(found.hash()))
 }
 
 /// Evicts the first members, so many of them, to make room.

@@ -36,15 +36,28 @@ impl<
         now: Instant,
     ) -> Result<Self, OutOfMemory>
     {
+        let segments = Self::build_segments(&router, max_capacity, &make, alloc, now)?;
+        Ok(SegmentedCache { router, segments })
+    }
+
+    // The segments, one after the other.
+    fn build_segments<F: Fn(u32) -> CacheConfig<X, L, P, W>>(
+        router: &Router<S>,
+        max_capacity: Option<u64>,
+        make: &F,
+        alloc: Global,
+        now: Instant,
+    ) -> Result<Vec<Cache<K, V, X, L, P, W, S>>, OutOfMemory>
+    {
         let mut segments = Vec::new(alloc);
         for index in 0..router.count() {
-            let config = with_share(&router, make(index), max_capacity, index);
-            let segment = Self::build_segment(&router, config, alloc, now)?;
+            let config = with_share(router, make(index), max_capacity, index);
+            let segment = Self::build_segment(router, config, alloc, now)?;
             let Ok(()) = segments.push(segment) else {
                 return Err(OutOfMemory);
             };
         }
-        Ok(SegmentedCache::from_parts(router, segments))
+        Ok(segments)
     }
 
     // A segment with this configuration.

@@ -56,7 +56,7 @@ impl<
     ) -> Result<Vec<PredicateId>, RegisterRefused<P>>
     {
         let mut done = Vec::new(*self.segments.allocator());
-        match Self::register_all(&mut self.segments, &make, now, ids, &mut done) {
+        match Self::register_each(&mut self.segments, &make, now, ids, &mut done) {
             Ok(()) => Ok(done),
             Err(refused) => Err(RegisterRefused { refused, done }),
         }
@@ -84,17 +84,5 @@ impl<
             Err(refused) => return Err(refused),
         }
         Self::register_each(rest, make, now, ids, done)
-    }
-
-    // The same of a whole vector.
-    fn register_all<F: Fn() -> P, I: IdSource>(
-        segments: &mut Vec<Cache<K, V, X, L, P, W, S>>,
-        make: &F,
-        now: Instant,
-        ids: &mut I,
-        done: &mut Vec<PredicateId>,
-    ) -> Result<(), PredicateRefused<P>>
-    {
-        Self::register_each(segments, make, now, ids, done)
     }
 }

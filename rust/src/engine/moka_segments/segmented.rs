@@ -23,7 +23,7 @@ pub struct SegmentedCache<
     W: Weigher<K, V> = NoWeigher,
     S: BuildHasher = DefaultHasher,
 > {
-    router: Router<S>,
+    pub(crate) router: Router<S>,
     pub(crate) segments: Vec<Cache<K, V, X, L, P, W, S>>,
 }
 
@@ -176,8 +176,7 @@ impl<
         V: Clone,
     {
         let index = self.router.segment_of(&key);
-        let segment = &mut self.segments[index];
-        segment.get_with(key, init, now, clock)
+        self.segments[index].get_with(key, init, now, clock)
     }
 
     /// As `get_with`, for a maker that may decline: then nothing is inserted, and `None` is answered.
@@ -196,8 +195,7 @@ impl<
         V: Clone,
     {
         let index = self.router.segment_of(&key);
-        let segment = &mut self.segments[index];
-        segment.optionally_get_with(key, init, now, clock)
+        self.segments[index].optionally_get_with(key, init, now, clock)
     }
 
     /// As `get_with`, for a maker that may fail: then nothing is inserted, and its error is answered.
@@ -216,7 +214,6 @@ impl<
         V: Clone,
     {
         let index = self.router.segment_of(&key);
-        let segment = &mut self.segments[index];
-        segment.try_get_with(key, init, now, clock)
+        self.segments[index].try_get_with(key, init, now, clock)
     }
 }

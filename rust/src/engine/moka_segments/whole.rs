@@ -22,25 +22,41 @@ impl<
     /// How many entries the last runs of maintenance counted, saturating.
     pub fn entry_count(&self) -> u64
     {
-        Self::entries_of(&self.segments)
+        let mut sum: u64 = 0;
+        for segment in &self.segments {
+            sum = sum.saturating_add(segment.entry_count());
+        }
+        sum
     }
 
     /// The weight that the last runs of maintenance counted, saturating.
     pub fn weighted_size(&self) -> u64
     {
-        Self::weight_of(&self.segments)
+        let mut sum: u64 = 0;
+        for segment in &self.segments {
+            sum = sum.saturating_add(segment.weighted_size());
+        }
+        sum
     }
 
     /// Hits, misses and loads of all segments since they were made, each saturating.
     pub fn stats(&self) -> Stats
     {
-        Self::stats_of(&self.segments)
+        let mut sum = Stats::new();
+        for segment in &self.segments {
+            sum = both_stats(sum, segment.stats());
+        }
+        sum
     }
 
     /// The sum of the segments' capacities, saturating; `None` if one of them has no bound.
     pub fn max_capacity(&self) -> Option<u64>
     {
-        Self::capacity_of(&self.segments)
+        let mut sum = Some(0);
+        for segment in &self.segments {
+            sum = both(sum, segment.policy().max_capacity());
+        }
+        sum
     }
 
     /// The first segment's name, if it has one.
@@ -65,7 +81,7 @@ impl<
     /// call.
     pub fn invalidate_all(&mut self, now: Instant)
     {
-        Self::hide_all(&mut self.segments, now);
+        Self::hide_each(&mut self.segments, now);
     }
 
     /// Runs maintenance of each segment in turn, without a time limit. The answer tells whether more is left of any.
@@ -74,47 +90,7 @@ impl<
     /// all.
     pub fn run_pending_tasks<C: Clock>(&mut self, now: Instant, clock: &mut C) -> bool
     {
-        Self::run_all(&mut self.segments, now, clock)
-    }
-
-    // How many entries the last runs counted, saturating.
-    fn entries_of(segments: &[Cache<K, V, X, L, P, W, S>]) -> u64
-    {
-        let mut sum: u64 = 0;
-        for segment in segments {
-            sum = sum.saturating_add(segment.entry_count());
-        }
-        sum
-    }
-
-    // The weight that the last runs counted, saturating.
-    fn weight_of(segments: &[Cache<K, V, X, L, P, W, S>]) -> u64
-    {
-        let mut sum: u64 = 0;
-        for segment in segments {
-            sum = sum.saturating_add(segment.weighted_size());
-        }
-        sum
-    }
-
-    // Hits, misses and loads, each saturating.
-    fn stats_of(segments: &[Cache<K, V, X, L, P, W, S>]) -> Stats
-    {
-        let mut sum = Stats::new();
-        for segment in segments {
-            sum = both_stats(sum, segment.stats());
-        }
-        sum
-    }
-
-    // The sum of the capacities, saturating, if each has one.
-    fn capacity_of(segments: &[Cache<K, V, X, L, P, W, S>]) -> Option<u64>
-    {
-        let mut sum = Some(0);
-        for segment in segments {
-            sum = both(sum, segment.policy().max_capacity());
-        }
-        sum
+        Self::run_each(&mut self.segments, now, clock)
     }
 
     // Hides what was written or read before the moment, in each.
@@ -125,12 +101,6 @@ impl<
         };
         first.invalidate_all(now);
         Self::hide_each(rest, now);
-    }
-
-    // The same of a whole vector.
-    fn hide_all(segments: &mut Vec<Cache<K, V, X, L, P, W, S>>, now: Instant)
-    {
-        Self::hide_each(segments, now);
     }
 
     // Runs maintenance of each, and tells whether more is left of any.
@@ -146,16 +116,6 @@ impl<
         let more = first.run_pending_tasks(now, clock);
         let others = Self::run_each(rest, now, clock);
         more | others
-    }
-
-    // The same of a whole vector.
-    fn run_all<C: Clock>(
-        segments: &mut Vec<Cache<K, V, X, L, P, W, S>>,
-        now: Instant,
-        clock: &mut C,
-    ) -> bool
-    {
-        Self::run_each(segments, now, clock)
     }
 }
 

@@ -26,7 +26,7 @@ mod rows;
 const FAR: usize = 1 << 18;
 
 /// A number that has a row, with the row's place.
-#[derive(Clone, Copy, Debug, PartialEq, Eq)]
+#[derive(Clone, Copy)]
 pub struct Handle {
     pub number: u64,
     pub place: usize,
@@ -106,11 +106,7 @@ impl<K: Eq + Hash, V, S: BuildHasher> Store<K, V, S> {
         let table = &self.table;
         let is_match = |place| changes::has_key(table, place, key);
         let place = self.index.find(hash.0, is_match)?;
-        let Some((number, stored)) = table.live(place) else {
-            unreachable!()
-        };
-        let handle = Handle { number, place };
-        Some((handle, stored))
+        Some(changes::live_at(table, place))
     }
 
     /// The record at this handle, if it is still there.

@@ -79,10 +79,7 @@ impl<T: Copy> Outstanding<T> {
     #[inline(always)]
     pub fn contains(&self, ticket: u64) -> bool
     {
-        match self.newest {
-            Some(newest) if newest.ticket == ticket => true,
-            _ => self.older.contains(ticket),
-        }
+        self.get(ticket).is_some()
     }
 
     /// Takes the item under a ticket back, if it is out. The room that this makes is not promised.

@@ -68,12 +68,6 @@ impl<T: Copy> TicketTable<T> {
         }
     }
 
-    /// Whether an item is out under a ticket.
-    pub fn contains(&self, ticket: u64) -> bool
-    {
-        self.waiting.contains_key(&ticket)
-    }
-
     /// Takes the item under a ticket back, if it is out. The room that this makes is not promised.
     pub fn take(&mut self, ticket: u64) -> Option<T>
     {

@@ -10,7 +10,7 @@ use crate::support::alloc::{AllocError, Global};
 const MOST: usize = 1 << 32;
 
 /// A timer that is due.
-#[derive(Clone, Copy, Debug, PartialEq, Eq)]
+#[derive(Clone, Copy)]
 pub struct Due {
     /// The slot that it had.
     pub slot: u32,

@@ -9,7 +9,7 @@ use crate::engine::moka_engine::{
 };
 
 /// Says yes to the values below a bound.
-#[derive(Clone, Copy, Debug, PartialEq, Eq)]
+#[derive(Clone, Copy, Debug, PartialEq)]
 pub struct Below(pub u64);
 
 impl<K> PredicateFn<K, u64> for Below {
@@ -21,7 +21,7 @@ impl<K> PredicateFn<K, u64> for Below {
 }
 
 /// Counts identifiers up. Behind the greatest there is no other, and a predicate may be refused for want of a free one.
-#[derive(Clone, Copy, Debug)]
+#[derive(Clone, Copy)]
 pub struct CountedIds(pub u128);
 
 impl IdSource for CountedIds {

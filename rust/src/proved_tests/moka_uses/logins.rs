@@ -12,7 +12,7 @@ use crate::support::alloc::Global;
 use crate::support::time::Duration;
 
 /// A session.
-#[derive(Clone, Copy, Debug, PartialEq, Eq)]
+#[derive(Clone, Copy, Debug, PartialEq)]
 pub struct Session {
     /// Whose it is.
     pub user: u64,
@@ -20,7 +20,7 @@ pub struct Session {
 }
 
 /// Says yes to the sessions of a user.
-#[derive(Clone, Copy, Debug, PartialEq, Eq)]
+#[derive(Clone, Copy, Debug, PartialEq)]
 pub struct OfUser(pub u64);
 
 impl<K> PredicateFn<K, Session> for OfUser {

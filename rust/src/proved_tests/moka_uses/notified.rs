@@ -7,7 +7,7 @@ use crate::engine::moka_engine::{CacheConfig, Engine, Instant, Listener, NoExpir
 use crate::support::alloc::Global;
 
 /// Counts the values that leave.
-#[derive(Clone, Copy, Debug, PartialEq, Eq)]
+#[derive(Clone, Copy, Debug, PartialEq)]
 pub struct Counter {
     pub count: u64,
 }

@@ -10,7 +10,7 @@ use crate::engine::moka_engine::{
 use crate::support::hash::Hash;
 
 /// How many places are free in a pool of connections. Each connection that leaves the cache gives its place back.
-#[derive(Clone, Copy, Debug, PartialEq, Eq)]
+#[derive(Clone, Copy, Debug, PartialEq)]
 pub struct Places {
     pub free: u64,
 }

@@ -12,7 +12,7 @@ use crate::engine::moka_segments::laws::{
 use crate::support::hash::{BuildHasher, Hash};
 
 /// What the segments of a cache keep together.
-#[derive(Clone, Copy, Debug, PartialEq, Eq)]
+#[derive(Clone, Copy)]
 pub struct Kept {
     /// The weight of all entries.
     pub weight: u64,

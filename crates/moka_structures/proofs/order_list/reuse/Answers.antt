@@ -5,6 +5,12 @@ use Rattle.moka_links.proofs.Nodes.{set-keeps}
 use Rattle.moka_structures.specs.Links.{at, attached, befores, blank, with_value}
 use Rattle.moka_structures.proofs.order_list.reuse.Goals as goal
 
+pub attach-requires-clause-slot : goal.attach-requires-clause-slot
+attach-requires-clause-slot g c = rw length-set (omega arith)
+
+pub attach-requires-clause-head : goal.attach-requires-clause-head
+attach-requires-clause-head g c = rw length-set (omega arith)
+
 pub attach-requires-clause-last : goal.attach-requires-clause-last
 attach-requires-clause-last g c past =
     let ns = c.as_mut_slice-nodes.result.now in

@@ -30,11 +30,11 @@ returns-clause-value g c = named c.args.prices.now.cache.engine.state c.args.nam
 
 pub returns-clause-found : goal.returns-clause-found
 returns-clause-found g c =
-    let made = c.get_by.ensures.made in
+    let (now, read, told, (made, shown)) = c.get_by.ensures.made in
     let s = c.args.prices.now.cache.engine.state in (
-      made.0,
-      made.1,
-      made.2,
-      if_ok (λ found. IsShown (λ _ _ _ answer. answer ≡ false) s (record_by (has_text c.args.name.now) s.records) made.0.0 (is_some found)) (λ found. IsFoundAt s c.args.name.now made.0.0 (is_some found)) (λ found shown. found_at s c.args.name.now (λ _ _ _ answer. answer ≡ false) made.0.0 (is_some found) shown) c.get_by.result made.4,
-      looked_up_by (plain_meaning string_eq g.C.Clock.reads) c.args.name.now _ made.0 c.args.prices.now.cache.engine made.1 c.get_by.new.self.cache.engine c.get_by.new.self.clock c.get_by.result made.3,
+      now,
+      read,
+      told,
+      if_ok (λ found. IsShown (λ _ _ _ answer. answer ≡ false) s (record_by (has_text c.args.name.now) s.records) now.0 (is_some found)) (λ found. IsFoundAt s c.args.name.now now.0 (is_some found)) (λ found shown. found_at s c.args.name.now (λ _ _ _ answer. answer ≡ false) now.0 (is_some found) shown) c.get_by.result shown,
+      looked_up_by (plain_meaning string_eq g.C.Clock.reads) c.args.name.now _ now c.args.prices.now.cache.engine read c.get_by.new.self.cache.engine c.get_by.new.self.clock c.get_by.result made,
     )

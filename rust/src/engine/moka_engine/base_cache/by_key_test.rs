@@ -2,39 +2,29 @@
 //! Look-ups and removals by a test of the key in place of a key.
 use crate::support::prelude::*;
 
-use super::gets::{self, Moments};
-use super::{BaseCache, ReadHit, entry_of_record};
-use crate::engine::moka_inner::Inner;
+use super::{BaseCache, Look, ReadHit};
+use crate::engine::moka_inner::Hashes;
 use crate::engine::moka_parts::calls::{Entry, KvEntry, Ticket};
-use crate::engine::moka_parts::closures::{PredicateFn, Weigher};
+use crate::engine::moka_parts::closures::{NoTest, PredicateFn, Weigher};
 use crate::engine::moka_parts::error::OutOfMemory;
 use crate::engine::moka_parts::housekeeper::Clock;
-use crate::engine::moka_parts::invalidator::Invalidator;
 use crate::engine::moka_parts::key_test::KeyTest;
 use crate::engine::moka_parts::notification::Listener;
 use crate::engine::moka_parts::policy::{Expiry, Instant};
-use crate::engine::moka_parts::record_ref::RecordRef;
-use crate::engine::moka_store::{Handle, IndexHash};
+use crate::engine::moka_store::IndexHash;
 use crate::support::hash::{BuildHasher, Hash};
 
-// The record whose key passes, unless a moment hides it or a predicate covers it. The test comes with the hash
-// in the map of the keys that pass.
-#[inline(always)]
-fn find_by<'a, K: Eq + Hash, V, S: BuildHasher, X, P, T: KeyTest<K>>(
-    inner: &'a Inner<K, V, S>,
-    moments: &Moments<'_, X>,
-    invalidator: &Invalidator<P>,
-    sought: (&T, IndexHash),
-) -> Option<(Handle, RecordRef<'a, K, V>)>
-where
-    P: PredicateFn<K, V>,
-{
-    let (test, own) = sought;
-    let (handle, found) = inner.find_by(test, own)?;
-    if moments.hide(&found) || invalidator.apply_predicates(&found) {
-        return None;
+// A key, as the test that it and what is equal to it pass.
+#[derive(Clone, Copy)]
+pub(super) struct SameKey<'a, K>(pub(super) &'a K);
+
+impl<'a, K: Eq + Hash> KeyTest<K> for SameKey<'a, K> {
+
+    #[inline(always)]
+    fn is_key(&self, key: &K) -> bool {
+        *self.0 == *key
     }
-    Some((handle, found))
+
 }
 
 impl<
@@ -58,9 +48,7 @@ impl<
     /// hasher.
     pub fn contains_by<T: KeyTest<K>>(&self, test: &T, hash: u64, now: Instant) -> bool
     {
-        let moments = self.moments(now);
-        let sought = (test, IndexHash::of(hash));
-        find_by(&self.inner, &moments, &self.invalidator, sought).is_some()
+        self.contains_hashed(test, IndexHash::of(hash), now)
     }
 
     /// As `remove_entry_with_own_hash` of the key that passes. `hash` is that of the keys that do, by the cache's own
@@ -71,10 +59,7 @@ impl<
         hash: u64,
     ) -> Option<(KvEntry<K, V>, Ticket)>
     {
-        let own = IndexHash::of(hash);
-        let (handle, _) = self.inner.find_by(test, own)?;
-        let (record, ticket) = self.inner.remove(handle, own);
-        Some((entry_of_record(record), ticket))
+        self.remove_hashed(test, IndexHash::of(hash))
     }
 
     /// As `get_with_own_hash` of the key that passes. `hash` is that of the keys that do, by the cache's own hasher.
@@ -95,39 +80,19 @@ impl<
         V: Clone,
     {
         let own = IndexHash::of(hash);
-        let policy = &self.expiration_policy;
-        let moments = Moments {
-            policy,
-            valid_after: &self.valid_after,
+        let look = Look {
+            test,
+            hashes: Hashes { hash, own },
+            need_key,
             now,
         };
-        let shown = find_by(&self.inner, &moments, &self.invalidator, (test, own));
-        let Some((handle, found)) = shown else {
-            self.record_miss(hash, now, clock);
-            return Ok(None);
-        };
-        let entry = gets::entry_of(&found, need_key)?;
-        let (first_hash, hit) = (found.hash(), gets::hit_of(&found, policy, now));
-        let read = ReadHit {
-            number: handle.number,
-            hash: first_hash,
-            renewed: hit.is_renewed,
-        };
-        self.inner
-            .touch(handle, hit.read, hit.expires, hit.is_renewed);
-        let queued = self.inner.read_count();
-        if self.housekeeper.should_apply_reads(queued, hit.read) {
-            self.record_hit_by((test, own), read, hit.read, clock);
-            return Ok(Some(entry));
-        }
-        self.inner.queue_read(handle.place, read.operation());
-        Ok(Some(entry))
+        self.get_hashed(look, &mut NoTest, clock)
     }
 
     // Makes the run that is due, and queues a hit of the record whose key passes. The run may remove that record, so
     // its place is looked up again.
     #[inline(always)]
-    fn record_hit_by<T: KeyTest<K>, C: Clock>(
+    pub(super) fn record_hit_by<T: KeyTest<K>, C: Clock>(
         &mut self,
         sought: (&T, IndexHash),
         hit: ReadHit,

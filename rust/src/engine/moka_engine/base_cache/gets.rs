@@ -7,9 +7,12 @@ use crate::engine::moka_parts::calls::Entry;
 use crate::engine::moka_parts::closures::{NoTest, PredicateFn, ValueTest};
 use crate::engine::moka_parts::error::OutOfMemory;
 use crate::engine::moka_parts::expiry::{has_lapsed, remaining, renewed};
+use crate::engine::moka_parts::housekeeper::Housekeeper;
 use crate::engine::moka_parts::invalidator::Invalidator;
+use crate::engine::moka_parts::key_test::KeyTest;
 use crate::engine::moka_parts::policy::{ExpirationPolicy, Expiry, Instant};
 use crate::engine::moka_parts::record_ref::RecordRef;
+use crate::engine::moka_parts::records::ReadOperation;
 use crate::engine::moka_store::{Handle, IndexHash};
 use crate::support::hash::{BuildHasher, Hash};
 use crate::support::time::Duration;
@@ -33,22 +36,26 @@ impl<'a, X> Moments<'a, X> {
     }
 }
 
-// The record of the key sought, which comes with its hash in the map; none if the caller's test, which is asked of its
-// value first, ignores it, a moment hides it or a predicate covers it.
+// The record of the key that passes, which comes with its hash in the map; none if the caller's test, which is asked of
+// its value first, ignores it, a moment hides it or a predicate covers it.
 #[inline(always)]
-pub(super) fn find_unless<'a, K: Eq + Hash, V, S: BuildHasher, X, P, I: ValueTest<V>>(
+pub(super) fn find_unless<'a, K: Eq + Hash, V, S: BuildHasher, X, P, T, I: ValueTest<V>>(
     inner: &'a Inner<K, V, S>,
     moments: &Moments<'_, X>,
     invalidator: &Invalidator<P>,
-    sought: (&K, IndexHash),
-    test: &mut I,
+    sought: (&T, IndexHash),
+    ignore_if: &mut I,
 ) -> Option<(Handle, RecordRef<'a, K, V>)>
 where
     P: PredicateFn<K, V>,
+    T: KeyTest<K>,
 {
-    let (key, own) = sought;
-    let (handle, found) = inner.find(key, own)?;
-    if test.ignores(found.value()) || moments.hide(&found) || invalidator.apply_predicates(&found) {
+    let (test, own) = sought;
+    let (handle, found) = inner.find_by(test, own)?;
+    if ignore_if.ignores(found.value())
+        || moments.hide(&found)
+        || invalidator.apply_predicates(&found)
+    {
         return None;
     }
     Some((handle, found))
@@ -56,11 +63,11 @@ where
 
 // The same without a test of the caller's.
 #[inline(always)]
-pub(super) fn find_shown<'a, K: Eq + Hash, V, S: BuildHasher, X, P>(
+pub(super) fn find_shown<'a, K: Eq + Hash, V, S: BuildHasher, X, P, T: KeyTest<K>>(
     inner: &'a Inner<K, V, S>,
     moments: &Moments<'_, X>,
     invalidator: &Invalidator<P>,
-    sought: (&K, IndexHash),
+    sought: (&T, IndexHash),
 ) -> Option<(Handle, RecordRef<'a, K, V>)>
 where
     P: PredicateFn<K, V>,
@@ -103,6 +110,30 @@ pub(super) fn hit_of<K, V, X: Expiry<K, V>>(
         expires,
         is_renewed,
     }
+}
+
+// Notes a hit in its record, which has this first hash, and queues it unless a run is due first. Whether one is.
+#[inline(always)]
+pub(super) fn note_hit<K: Eq + Hash, V, S: BuildHasher>(
+    inner: &mut Inner<K, V, S>,
+    housekeeper: &Housekeeper,
+    handle: Handle,
+    hash: u64,
+    hit: Hit,
+) -> bool
+{
+    inner.touch(handle, hit.read, hit.expires, hit.is_renewed);
+    let queued = inner.read_count();
+    if housekeeper.should_apply_reads(queued, hit.read) {
+        return true;
+    }
+    let read = ReadOperation::Hit {
+        number: handle.number,
+        hash,
+        renewed: hit.is_renewed,
+    };
+    inner.queue_read(handle.place, read);
+    false
 }
 
 // How long a record still lasts at a moment. Caches without an expiry ask nothing of it.

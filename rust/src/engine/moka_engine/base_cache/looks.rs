@@ -3,6 +3,7 @@
 //! moka: `sync::base_cache::BaseCache`, `common::concurrent::ScanningGet`.
 use crate::support::prelude::*;
 
+use super::by_key_test::SameKey;
 use super::gets::{self, Moments};
 use super::{BaseCache, Look, ReadHit};
 use crate::engine::moka_inner::Hashes;
@@ -10,6 +11,7 @@ use crate::engine::moka_parts::calls::Entry;
 use crate::engine::moka_parts::closures::{NoTest, PredicateFn, ValueTest, Weigher};
 use crate::engine::moka_parts::error::OutOfMemory;
 use crate::engine::moka_parts::housekeeper::Clock;
+use crate::engine::moka_parts::key_test::KeyTest;
 use crate::engine::moka_parts::notification::Listener;
 use crate::engine::moka_parts::policy::{Expiry, Instant};
 use crate::support::hash::{BuildHasher, Hash};
@@ -46,7 +48,7 @@ impl<
             Some(test) => {
                 let own = self.inner.index_hash(key);
                 let look = Look {
-                    key,
+                    test: &SameKey(key),
                     hashes: Hashes { hash, own },
                     need_key,
                     now,
@@ -57,12 +59,12 @@ impl<
         }
     }
 
-    // A look-up that is recorded. The test may ignore what it finds.
+    // A look-up that is recorded, of the key that passes. The caller's test may ignore what it finds.
     #[inline(always)]
-    pub(super) fn get_hashed<I: ValueTest<V>, C: Clock>(
+    pub(super) fn get_hashed<T: KeyTest<K>, I: ValueTest<V>, C: Clock>(
         &mut self,
-        look: Look<'_, K>,
-        test: &mut I,
+        look: Look<'_, T>,
+        ignore_if: &mut I,
         clock: &mut C,
     ) -> Result<Option<Entry<K, V>>, OutOfMemory>
     where
@@ -70,7 +72,7 @@ impl<
         V: Clone,
     {
         let Look {
-            key,
+            test,
             hashes,
             need_key,
             now,
@@ -81,27 +83,23 @@ impl<
             valid_after: &self.valid_after,
             now,
         };
-        let sought = (key, hashes.own);
-        let shown = gets::find_unless(&self.inner, &moments, &self.invalidator, sought, test);
+        let sought = (test, hashes.own);
+        let shown = gets::find_unless(&self.inner, &moments, &self.invalidator, sought, ignore_if);
         let Some((handle, found)) = shown else {
             self.record_miss(hashes.hash, now, clock);
             return Ok(None);
         };
         let entry = gets::entry_of(&found, need_key)?;
         let (hash, hit) = (found.hash(), gets::hit_of(&found, policy, now));
-        let read = ReadHit {
-            number: handle.number,
-            hash,
-            renewed: hit.is_renewed,
-        };
-        self.inner
-            .touch(handle, hit.read, hit.expires, hit.is_renewed);
-        let queued = self.inner.read_count();
-        if self.housekeeper.should_apply_reads(queued, hit.read) {
-            self.record_hit_when_due(key, read, hit.read, clock);
+        if gets::note_hit(&mut self.inner, &self.housekeeper, handle, hash, hit) {
+            let read = ReadHit {
+                number: handle.number,
+                hash,
+                renewed: hit.is_renewed,
+            };
+            self.record_hit_by(sought, read, hit.read, clock);
             return Ok(Some(entry));
         }
-        self.inner.queue_read(handle.place, read.operation());
         Ok(Some(entry))
     }
 
@@ -144,7 +142,7 @@ impl<
             valid_after: &self.valid_after,
             now,
         };
-        let sought = (key, own);
+        let sought = (&SameKey(key), own);
         let shown = gets::find_unless(&self.inner, &moments, &self.invalidator, sought, test);
         let Some((handle, found)) = shown else {
             return Ok(None);
@@ -166,7 +164,7 @@ impl<
         V: Clone,
     {
         let moments = self.moments(now);
-        let sought = (key, self.inner.index_hash(key));
+        let sought = (&SameKey(key), self.inner.index_hash(key));
         let shown = gets::find_shown(&self.inner, &moments, &self.invalidator, sought);
         let Some((_, found)) = shown else {
             return Ok(None);

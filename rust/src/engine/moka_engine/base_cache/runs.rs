@@ -2,7 +2,7 @@
 //! Runs of maintenance. moka: `sync::base_cache::Inner::do_run_pending_tasks`.
 use crate::support::prelude::*;
 
-use super::{BaseCache, ReadHit};
+use super::BaseCache;
 use crate::engine::moka_maintenance::bounds::Bounds;
 use crate::engine::moka_maintenance::passes::Terms;
 use crate::engine::moka_maintenance::sweep::Tests;
@@ -118,21 +118,6 @@ impl<
         }
         self.apply_reads_if_needed(now, clock);
         self.inner.queue_read(0, ReadOperation::Miss { hash });
-    }
-
-    // Makes the run that is due, and queues a hit of the key's record. The run may remove that record, so its place is
-    // looked up again.
-    #[inline(always)]
-    pub(super) fn record_hit_when_due<C: Clock>(
-        &mut self,
-        key: &K,
-        hit: ReadHit,
-        now: Instant,
-        clock: &mut C,
-    )
-    {
-        self.run_by_housekeeper(now, clock);
-        self.inner.queue_hit(key, hit.number, hit.hash, hit.renewed);
     }
 
     // A run that the housekeeper makes.

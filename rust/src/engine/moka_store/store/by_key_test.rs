@@ -2,7 +2,7 @@
 //! Records by tests of their keys, and hashes of what is not a key.
 use crate::support::prelude::*;
 
-use super::{Handle, IndexHash, Store};
+use super::{Handle, IndexHash, Store, changes};
 use crate::engine::moka_store::table::RecordTable;
 use crate::engine::moka_parts::key_test::KeyTest;
 use crate::engine::moka_parts::record_ref::RecordRef;
@@ -38,10 +38,6 @@ impl<K: Eq + Hash, V, S: BuildHasher> Store<K, V, S> {
         let table = &self.table;
         let is_match = |place| is_key_at(table, place, test);
         let place = self.index.find(hash.0, is_match)?;
-        let Some((number, stored)) = table.live(place) else {
-            unreachable!()
-        };
-        let handle = Handle { number, place };
-        Some((handle, stored))
+        Some(changes::live_at(table, place))
     }
 }

@@ -5,6 +5,7 @@ use crate::support::prelude::*;
 use super::Handle;
 use crate::engine::moka_store::table::RecordTable;
 use crate::engine::moka_parts::policy::Instant;
+use crate::engine::moka_parts::record_ref::RecordRef;
 use crate::support::alloc::AllocError;
 
 /// A place in the index has 32 bits.
@@ -43,6 +44,19 @@ pub(crate) fn reserve_rows<K, V>(
 pub(crate) fn has_key<K: Eq, V>(table: &RecordTable<K, V>, place: usize, key: &K) -> bool
 {
     table.key(place).is_some_and(|own| *key == *own)
+}
+
+// The handle of the record at this place, and that record.
+#[inline(always)]
+pub(crate) fn live_at<K, V>(
+    table: &RecordTable<K, V>,
+    place: usize,
+) -> (Handle, RecordRef<'_, K, V>)
+{
+    let Some((number, stored)) = table.live(place) else {
+        unreachable!()
+    };
+    (Handle { number, place }, stored)
 }
 
 // The handle of the row at this place, with its counted weight.

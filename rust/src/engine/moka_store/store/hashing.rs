@@ -13,7 +13,7 @@ fn index_hash(hash: u64) -> u32
 }
 
 /// The hash under which a store has a key, or would have it: 32 bits of the hash that its hasher makes of the key.
-#[derive(Clone, Copy, Debug)]
+#[derive(Clone, Copy)]
 pub struct IndexHash(pub(crate) u32);
 
 impl IndexHash {

@@ -1,4 +1,4 @@
-use Rattle.std.proofs.Common.{◌≡◌, ◌∙◌, ℕ, refl, subst, sym, Some, None, Ok, Err}
+use Rattle.std.proofs.Common.{◌≡◌, ◌∙◌, ℕ, refl, subst, sym, Some, None, Result, Ok, Err, IfOk}
 use Rattle.std.proofs.lemmas.Option.{same_Some}
 use Rattle.moka_parts.specs.declared.error.OutOfMemory.{OutOfMemory}
 use Rattle.moka_parts.specs.Hashing.{key_hash}
@@ -11,14 +11,14 @@ use Rattle.moka_drive.proofs.cache.Cache.get_or_insert.Goals as goal
 pub returns-in-Ok-Some : goal.returns-in-Ok-Some
 returns-in-Ok-Some g c =
     let hash_by : g.row.S.Denot → ℕ = λ h. key_hash g.S.BuildHasher g.S.Hasher.Hasher h (g.K.Hash.hash_input c.args.key) in
-    let there = got_value g.V.Clone.is_clone _ c.args.key hash_by c.args.now c.args.self.now c.get_hashed.new.self c.args.clock.now c.get_hashed.new.clock (λ v. v ≡ c.args.value) _ c.in-Ok-Some.value c.in-Ok-Some.field-0-is c.in-Ok-Some.ensures.made c.in-Ok-Some.ensures.counted c.in-Ok-Some.ensures.sees in
-    rw c.found.ensures (None, Ok there.0, there.1.0, there.1.1, (refl, refl, refl), there.1.2, there.1.3, there.1.4, tt)
+    let there = got_value g.V.Clone.is_clone _ c.args.key hash_by c.args.now c.args.self.now c.get_hashed.new.self c.args.clock.now c.get_hashed.new.clock (λ (a : Result g.row.V.Denot (Unit {0})). IfOk a (λ v. v ≡ c.args.value)) _ c.in-Ok-Some.value c.in-Ok-Some.field-0-is c.in-Ok-Some.ensures.made c.in-Ok-Some.ensures.counted c.in-Ok-Some.ensures.sees in
+    rw c.found.ensures (None, Ok there.0, (λ v e. absurd (cc)), there.1.1, (refl, refl, refl), there.1.2, there.1.3, there.1.4.0, tt)
 
 pub returns-in-Err : goal.returns-in-Err
 returns-in-Err g c =
     let hash_by : g.row.S.Denot → ℕ = λ h. key_hash g.S.BuildHasher g.S.Hasher.Hasher h (g.K.Hash.hash_input c.args.key) in
-    let refused = got_refused g.V.Clone.is_clone _ c.args.key hash_by c.args.now c.args.self.now c.get_hashed.new.self c.args.clock.now c.get_hashed.new.clock (λ v. v ≡ c.args.value) c.in-Err.field-0 c.in-Err.ensures.made c.in-Err.ensures.counted c.in-Err.ensures.unchanged.0 in
-    (None, Err None, refused.0, refl, tt, refused.2, refused.3, tt, (refl, refl))
+    let refused = got_refused g.V.Clone.is_clone _ c.args.key hash_by c.args.now c.args.self.now c.get_hashed.new.self c.args.clock.now c.get_hashed.new.clock (λ (a : Result g.row.V.Denot (Unit {0})). IfOk a (λ v. v ≡ c.args.value)) c.in-Err.field-0 c.in-Err.ensures.made c.in-Err.ensures.counted c.in-Err.ensures.unchanged.0 in
+    (None, Err None, (λ v e. absurd (cc)), refl, tt, refused.2, refused.3, tt, (refl, refl))
 
 pub returns : goal.returns
 returns g c =

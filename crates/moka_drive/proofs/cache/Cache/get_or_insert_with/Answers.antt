@@ -1,30 +1,10 @@
-use Rattle.std.proofs.Common.{ℕ, refl, Some, None, Ok, Err}
-use Rattle.std.proofs.lemmas.Result.{err_from_is_err_and}
+use Rattle.std.proofs.Common.{rules, of_calls}
 use Rattle.moka_parts.specs.Hashing.{key_hash}
-use Rattle.moka_drive.proofs.Getting.{got_refused, got_value, made_and_handed_out}
+use Rattle.moka_drive.proofs.Entries.{always_fresh}
 use Rattle.moka_drive.proofs.cache.Cache.get_or_insert_with.Goals as goal
-
-pub returns-in-Ok-Some : goal.returns-in-Ok-Some
-returns-in-Ok-Some g c =
-    let hash_by : g.row.S.Denot → ℕ = λ h. key_hash g.S.BuildHasher g.S.Hasher.Hasher h (g.K.Hash.hash_input c.args.key) in
-    let came = got_value g.V.Clone.is_clone _ c.args.key hash_by c.args.now c.args.self.now c.get_hashed.new.self c.args.clock.now c.get_hashed.new.clock (λ v. g.F.FnOnce.post c.args.init tt v) _ c.in-Ok-Some.value c.in-Ok-Some.field-0-is c.in-Ok-Some.ensures.made c.in-Ok-Some.ensures.counted c.in-Ok-Some.ensures.sees in
-    rw c.found.ensures (None, Ok came.0, (refl, refl, refl), came.1)
-
-pub returns-in-Err : goal.returns-in-Err
-returns-in-Err g c =
-    let hash_by : g.row.S.Denot → ℕ = λ h. key_hash g.S.BuildHasher g.S.Hasher.Hasher h (g.K.Hash.hash_input c.args.key) in
-    let came = got_refused g.V.Clone.is_clone _ c.args.key hash_by c.args.now c.args.self.now c.get_hashed.new.self c.args.clock.now c.get_hashed.new.clock (λ v. g.F.FnOnce.post c.args.init tt v) c.in-Err.field-0 c.in-Err.ensures.made c.in-Err.ensures.counted c.in-Err.ensures.unchanged.0 in
-    (None, Err None, tt, came)
 
 pub returns : goal.returns
 returns g c =
-    let hash_by : g.row.S.Denot → ℕ = λ h. key_hash g.S.BuildHasher g.S.Hasher.Hasher h (g.K.Hash.hash_input c.args.key) in
-    let came = made_and_handed_out g.V.Clone.is_clone _ c.args.key hash_by c.args.now c.args.self.now c.get_hashed.new.self c.args.clock.now c.get_hashed.new.clock _ c.in-Ok-None.field-0-is c.in-Ok-None.ensures.made c.in-Ok-None.ensures.counted c.count_load.new.self c.count_load.ensures c.in-Ok-None.ensures.sees (λ v. g.F.FnOnce.post c.args.init tt v) c.init-value.result c.init-value.ensures c.insert_entry.new.self c.insert_entry.new.clock c.insert_entry.ensures.counted (Ok c.in_ok-insert_entry.field-0.value) c.in_ok-insert_entry.ensures.made tt in
-    (Some c.init-value.result, came.0, c.in_ok-insert_entry.ensures.entry, came.1)
-
-pub returns-in_err-insert_entry : goal.returns-in_err-insert_entry
-returns-in_err-insert_entry g c =
-    let hash_by : g.row.S.Denot → ℕ = λ h. key_hash g.S.BuildHasher g.S.Hasher.Hasher h (g.K.Hash.hash_input c.args.key) in
-    let came = made_and_handed_out g.V.Clone.is_clone _ c.args.key hash_by c.args.now c.args.self.now c.get_hashed.new.self c.args.clock.now c.get_hashed.new.clock _ c.in-Ok-None.field-0-is c.in-Ok-None.ensures.made c.in-Ok-None.ensures.counted c.count_load.new.self c.count_load.ensures c.in-Ok-None.ensures.sees (λ v. g.F.FnOnce.post c.args.init tt v) c.init-value.result c.init-value.ensures c.insert_entry.new.self c.insert_entry.new.clock c.insert_entry.ensures.counted (Err c.in_err-insert_entry.field-0.0) c.in_err-insert_entry.ensures.made c.in_err-insert_entry.ensures.back in
-    let p = err_from_is_err_and c.from_residual.result c.from_residual.ensures.1 in
-    rw (p.1, p.2) (Some c.init-value.result, came.0, tt, came.1)
+    let got = rw c.always_made.ensures at c.get_or_try_insert_with.ensures in
+    let hash = key_hash g.S.BuildHasher g.S.Hasher.Hasher c.args.self.now.engine.hasher (g.K.Hash.hash_input c.args.key) in
+    always_fresh g.K.Clone.is_clone g.V.Clone.is_clone _ c.args.key hash c.args.now c.args.self.now c.get_or_try_insert_with.new.self c.args.clock.now c.get_or_try_insert_with.new.clock _ (g.F.FnOnce.post c.args.init tt) c.always_made.result got (λ v called. search (of_calls, rules))

@@ -1,8 +1,11 @@
-use Rattle.std.proofs.Common.{sym, ◌∙◌}
+use Rattle.std.proofs.Common.{◌≡◌, true, false, ap, sym, ◌∙◌}
+use Rattle.std.specs.FinMap.{insert}
 use Rattle.std.proofs.lemmas.Result.{err_from_is_err_and}
+use Rattle.moka_parts.specs.State.{is_disabled}
 use Rattle.moka_drive.proofs.Asking.{let_go, inserted, insert_refused}
 use Rattle.moka_drive.proofs.Put.{put_by_insert, kept_where_held, shown_where_held}
 use Rattle.moka_drive.proofs.Alike.{then, insert_hides, still_shows}
+use Rattle.moka_drive.proofs.Waiting.{insert_hands_out}
 use Rattle.moka_drive.proofs.cache.Cache.insert_hashed.Goals as goal
 
 pub returns-then-is_map_disabled-clause-made : goal.returns-then-is_map_disabled-clause-made
@@ -39,3 +42,23 @@ returns-clause-shown g c =
     let alike = then old mid c.post.new.engine.state (insert_hides g.X.Expiry.created g.X.Expiry.updated g.W.Weigher.weighs g.K.PartialEq.eq old c.args.put.key c.args.put.hash c.args.put.value c.args.now (c.in_ok-ticket.ticket, c.in_ok-ticket.field-0-1) put.0 mid put.1.1) c.post.ensures.hides in
     rw (← c.self.view_is) (λ enabled shows. shown_where_held g.K.PartialEq.eq laws c.args.put.key c.args.put.value c.args.now g.P.PredicateFn.says _ mid c.post.new.engine.state c.invariant_holds-2.ensures.valid is_put (c.post.ensures.holds is_put.made.number is_put.made is_put.older is_put.held)
     (shows.unexpiring, c.invariant_holds.ensures.served.unexpiring shows.unexpiring) (still_shows old c.post.new.engine.state c.args.now.0 alike shows))
+
+pub returns-then-is_map_disabled-clause-kept : goal.returns-then-is_map_disabled-clause-kept
+returns-then-is_map_disabled-clause-kept g c =
+    rw (← c.self.view_is) (λ enabled. let impossible : true ≡ false = sym (sym c.is_map_disabled.ensures ∙ c.if-is_map_disabled.true) ∙ enabled in absurd (cc))
+
+pub returns-then-is_map_disabled-clause-shown : goal.returns-then-is_map_disabled-clause-shown
+returns-then-is_map_disabled-clause-shown g c =
+    rw (← c.self.view_is) (λ enabled. let impossible : true ≡ false = sym (sym c.is_map_disabled.ensures ∙ c.if-is_map_disabled.true) ∙ enabled in absurd (cc))
+
+pub post-requires-clause-waiting : goal.post-requires-clause-waiting
+post-requires-clause-waiting g c =
+    let put = c.in_ok-ticket.ensures in
+    let out = (insert_hands_out g.X.Expiry.created g.X.Expiry.updated g.W.Weigher.weighs g.K.PartialEq.eq c.self.inside.engine.state c.args.put.key c.args.put.hash c.args.put.value c.args.now (c.in_ok-ticket.ticket, c.in_ok-ticket.field-0-1) put.0 c.do_insert_with_own_hash.new.self.state put.1.1).0 in
+    (out.operation, out.outstanding ∙ ap (λ m. insert m c.in_ok-ticket.ticket.0 out.operation) c.self.invariant)
+
+pub post-requires-clause-enabled : goal.post-requires-clause-enabled
+post-requires-clause-enabled g c =
+    let put = c.in_ok-ticket.ensures in
+    let out = (insert_hands_out g.X.Expiry.created g.X.Expiry.updated g.W.Weigher.weighs g.K.PartialEq.eq c.self.inside.engine.state c.args.put.key c.args.put.hash c.args.put.value c.args.now (c.in_ok-ticket.ticket, c.in_ok-ticket.field-0-1) put.0 c.do_insert_with_own_hash.new.self.state put.1.1).0 in
+    ap is_disabled out.capacity ∙ (sym c.is_map_disabled.ensures ∙ c.if-is_map_disabled.false)

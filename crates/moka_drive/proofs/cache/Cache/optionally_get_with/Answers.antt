@@ -1,37 +1,12 @@
-use Rattle.std.proofs.Common.{ℕ, Some, None, Ok, Err}
-use Rattle.std.proofs.lemmas.Result.{err_from_is_err_and}
+use Rattle.std.proofs.Common.{option_map, rules, of_calls}
+use Rattle.std.specs.Result.{result_ok}
 use Rattle.moka_parts.specs.Hashing.{key_hash}
-use Rattle.moka_drive.specs.declared.error.GetWithRefused.TheVariants.{Lookup, Insert}
-use Rattle.moka_drive.proofs.Getting.{declined, got_refused, got_value, if_made, made_and_handed_out}
+use Rattle.moka_drive.specs.Given.{if_made}
+use Rattle.moka_drive.proofs.Getting.{may_decline}
 use Rattle.moka_drive.proofs.cache.Cache.optionally_get_with.Goals as goal
-
-pub returns-in-Ok-Some : goal.returns-in-Ok-Some
-returns-in-Ok-Some g c =
-    let hash_by : g.row.S.Denot → ℕ = λ h. key_hash g.S.BuildHasher g.S.Hasher.Hasher h (g.K.Hash.hash_input c.args.key) in
-    let came = if_made g.V.Clone.is_clone _ c.args.key (hash_by c.args.self.now.engine.hasher) c.args.now c.args.self.now c.get_hashed.new.self c.args.clock.now c.get_hashed.new.clock (λ a. g.F.FnOnce.post c.args.init tt a) None (Ok c.in-Ok-Some.value) (let there = got_value g.V.Clone.is_clone _ c.args.key hash_by c.args.now c.args.self.now c.get_hashed.new.self c.args.clock.now c.get_hashed.new.clock (λ v. g.F.FnOnce.post c.args.init tt (Some v)) _ c.in-Ok-Some.value c.in-Ok-Some.field-0-is c.in-Ok-Some.ensures.made c.in-Ok-Some.ensures.counted c.in-Ok-Some.ensures.sees in (Ok there.0, there.1)) in
-    (None, came.0, came.1)
-
-pub returns-in-Err : goal.returns-in-Err
-returns-in-Err g c =
-    let hash_by : g.row.S.Denot → ℕ = λ h. key_hash g.S.BuildHasher g.S.Hasher.Hasher h (g.K.Hash.hash_input c.args.key) in
-    let came = if_made g.V.Clone.is_clone _ c.args.key (hash_by c.args.self.now.engine.hasher) c.args.now c.args.self.now c.get_hashed.new.self c.args.clock.now c.get_hashed.new.clock (λ a. g.F.FnOnce.post c.args.init tt a) None (Err (Lookup c.args.key)) (Err None, got_refused g.V.Clone.is_clone _ c.args.key hash_by c.args.now c.args.self.now c.get_hashed.new.self c.args.clock.now c.get_hashed.new.clock (λ v. g.F.FnOnce.post c.args.init tt (Some v)) c.in-Err.field-0 c.in-Err.ensures.made c.in-Err.ensures.counted c.in-Err.ensures.unchanged.0) in
-    (None, came.0, came.1)
-
-pub returns-in_default : goal.returns-in_default
-returns-in_default g c =
-    let hash_by : g.row.S.Denot → ℕ = λ h. key_hash g.S.BuildHasher g.S.Hasher.Hasher h (g.K.Hash.hash_input c.args.key) in
-    let came = declined g.V.Clone.is_clone _ c.args.key hash_by c.args.now c.args.self.now c.get_hashed.new.self c.args.clock.now c.get_hashed.new.clock _ c.in-Ok-None.field-0-is c.in-Ok-None.ensures.made c.in-Ok-None.ensures.counted c.count_load.new.self c.count_load.ensures (λ a. g.F.FnOnce.post c.args.init tt a) c.in_default.ensures in
-    (Some None, came.0, came.1)
 
 pub returns : goal.returns
 returns g c =
-    let hash_by : g.row.S.Denot → ℕ = λ h. key_hash g.S.BuildHasher g.S.Hasher.Hasher h (g.K.Hash.hash_input c.args.key) in
-    let came = if_made g.V.Clone.is_clone _ c.args.key (hash_by c.args.self.now.engine.hasher) c.args.now c.args.self.now c.insert_made_hashed.new.self c.args.clock.now c.insert_made_hashed.new.clock (λ a. g.F.FnOnce.post c.args.init tt a) (Some c.in-Some.value) (Ok c.in_ok-insert_made_hashed.field-0) (made_and_handed_out g.V.Clone.is_clone _ c.args.key hash_by c.args.now c.args.self.now c.get_hashed.new.self c.args.clock.now c.get_hashed.new.clock _ c.in-Ok-None.field-0-is c.in-Ok-None.ensures.made c.in-Ok-None.ensures.counted c.count_load.new.self c.count_load.ensures c.in-Ok-None.ensures.sees (λ v. g.F.FnOnce.post c.args.init tt (Some v)) c.in-Some.value c.in-Some.ensures c.insert_made_hashed.new.self c.insert_made_hashed.new.clock c.insert_made_hashed.ensures.counted (Ok c.in_ok-insert_made_hashed.field-0) c.in_ok-insert_made_hashed.ensures.made tt) in
-    (Some (Some c.in-Some.value), came.0, came.1)
-
-pub returns-in_err-insert_made_hashed : goal.returns-in_err-insert_made_hashed
-returns-in_err-insert_made_hashed g c =
-    let hash_by : g.row.S.Denot → ℕ = λ h. key_hash g.S.BuildHasher g.S.Hasher.Hasher h (g.K.Hash.hash_input c.args.key) in
-    let came = if_made g.V.Clone.is_clone _ c.args.key (hash_by c.args.self.now.engine.hasher) c.args.now c.args.self.now c.insert_made_hashed.new.self c.args.clock.now c.insert_made_hashed.new.clock (λ a. g.F.FnOnce.post c.args.init tt a) (Some c.in-Some.value) (Err (Insert c.in_err-insert_made_hashed.field-0.0)) (made_and_handed_out g.V.Clone.is_clone _ c.args.key hash_by c.args.now c.args.self.now c.get_hashed.new.self c.args.clock.now c.get_hashed.new.clock _ c.in-Ok-None.field-0-is c.in-Ok-None.ensures.made c.in-Ok-None.ensures.counted c.count_load.new.self c.count_load.ensures c.in-Ok-None.ensures.sees (λ v. g.F.FnOnce.post c.args.init tt (Some v)) c.in-Some.value c.in-Some.ensures c.insert_made_hashed.new.self c.insert_made_hashed.new.clock c.insert_made_hashed.ensures.counted (Err c.in_err-insert_made_hashed.field-0.0) c.in_err-insert_made_hashed.ensures.made c.in_err-insert_made_hashed.ensures.back) in
-    let p = err_from_is_err_and c.from_residual.result c.from_residual.ensures.1 in
-    rw (p.1, p.2) (Some (Some c.in-Some.value), came.0, came.1)
+    let got = c.try_get_with.ensures in
+    let hash = key_hash g.S.BuildHasher g.S.Hasher.Hasher c.args.self.now.engine.hasher (g.K.Hash.hash_input c.args.key) in
+    rw c.if_made.ensures (option_map result_ok got.0, if_made got.1, may_decline g.V.Clone.is_clone _ c.args.key hash c.args.now c.args.self.now c.try_get_with.new.self c.args.clock.now c.try_get_with.new.clock _ (g.F.FnOnce.post c.args.init tt) got.0 got.1 c.try_get_with.result got.2 (λ a called. search (of_calls, rules)))

@@ -1,6 +1,13 @@
-use Rattle.std.proofs.Common.{refl, sym, subst, ◌∙◌, inl, inr, [], ◌∷◌}
+use Rattle.std.proofs.Common.{◌≡◌, true, false, refl, ap, sym, subst, ◌∙◌, inl, inr, [], ◌∷◌}
+use Rattle.std.specs.FinMap.{empty, insert}
 use Rattle.std.proofs.lemmas.Result.{err_from_is_err_and}
+use Rattle.moka_parts.specs.declared.records.Operation.{Operation}
+use Rattle.moka_parts.specs.declared.records.Operation.TheVariants.{Upsert}
+use Rattle.moka_parts.specs.Hashing.{key_hash}
+use Rattle.moka_parts.specs.State.{is_disabled}
 use Rattle.moka_drive.specs.Saved.{TakesOnlyExpired}
+use Rattle.moka_drive.specs.Unsent.{HidesNoMore}
+use Rattle.moka_drive.proofs.Alike.{then}
 use Rattle.moka_drive.proofs.Lasting.{keeps_itself, keeps_then}
 use Rattle.moka_drive.proofs.Restoring.{restored_there, restored_adds, adds_nothing}
 use Rattle.moka_drive.proofs.There.{lasts_restored}
@@ -43,3 +50,24 @@ pub returns-clause-lasts : goal.returns-clause-lasts
 returns-clause-lasts g c =
     rw (← c.self.view_is) (keeps_then g.W.Weigher.weighs (c.args.item ∷ []) [] c.args.now.0 c.self.inside.engine.state c.restore.new.self.state c.post.new.engine.state
     (lasts_restored g.K.PartialEq.eq g.W.Weigher.weighs c.self.inside.engine.state c.restore.new.self.state c.args.item _ c.in_ok-ticket.ticket c.in_ok-ticket.ensures.step c.invariant_holds.ensures.valid c.args.now.0) c.post.ensures.lasts)
+
+pub returns-then-is_map_disabled-clause-kept : goal.returns-then-is_map_disabled-clause-kept
+returns-then-is_map_disabled-clause-kept g c =
+    rw (← c.self.view_is) (λ enabled. let impossible : true ≡ false = sym (sym c.is_map_disabled.ensures ∙ c.if-is_map_disabled.true) ∙ enabled in absurd (cc))
+
+pub returns-in_err-ticket-clause-hides : goal.returns-in_err-ticket-clause-hides
+returns-in_err-ticket-clause-hides g c =
+    rw (← c.self.view_is) (subst (HidesNoMore c.self.inside.engine.state) (sym c.in_err-ticket.ensures.step.2) (record { settings = refl; bound = refl; predicates = λ none. none }))
+
+pub returns-clause-hides : goal.returns-clause-hides
+returns-clause-hides g c =
+    rw (← c.self.view_is) (then c.self.inside.engine.state c.restore.new.self.state c.post.new.engine.state (subst (HidesNoMore c.self.inside.engine.state) (sym c.in_ok-ticket.ensures.step.6) (record { settings = refl; bound = refl; predicates = λ none. none })) c.post.ensures.hides)
+
+pub post-requires-clause-waiting : goal.post-requires-clause-waiting
+post-requires-clause-waiting g c =
+    let step = c.in_ok-ticket.ensures.step in
+    let operation : Operation = Upsert c.self.inside.engine.state.next_number 1 step.0 (key_hash g.S.BuildHasher g.S.Hasher.Hasher c.self.inside.engine.hasher (g.K.Hash.hash_input c.args.item.key)) in
+    (operation, ap (λ s. s.outstanding) step.6 ∙ ap (λ m. insert m c.self.inside.engine.state.next_ticket operation) c.self.invariant ∙ ap (λ n. insert empty n operation) (sym step.5))
+
+pub post-requires-clause-enabled : goal.post-requires-clause-enabled
+post-requires-clause-enabled g c = ap (λ s. is_disabled s.capacity) c.in_ok-ticket.ensures.step.6 ∙ (sym c.is_map_disabled.ensures ∙ c.if-is_map_disabled.false)

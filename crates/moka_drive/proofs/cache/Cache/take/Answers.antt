@@ -1,4 +1,5 @@
 use Rattle.std.proofs.Common.{◌∙◌, refl, ap, Some, None}
+use Rattle.std.specs.FinMap.{insert}
 use Rattle.moka_parts.specs.State.{Meaning, is_disabled}
 use Rattle.moka_parts.proofs.RunKeeps.{keeps_itself}
 use Rattle.moka_drive.specs.Synchronous.{meaning_of}
@@ -42,3 +43,8 @@ returns-in_default-clause-value g c = rw (← c.self.view_is) (value_taken g.K.P
 
 pub returns-clause-value : goal.returns-clause-value
 returns-clause-value g c = rw (← c.self.view_is) (value_taken g.K.PartialEq.eq c.args.key.now c.self.inside.engine.state c.remove_entry_with_own_hash.new.self.state (Some (c.in-Some.entry, c.in-Some.ticket)) c.in-Some.ensures.step)
+
+pub post-requires-clause-waiting : goal.post-requires-clause-waiting
+post-requires-clause-waiting g c =
+    let out = remove_hands_out g.K.PartialEq.eq c.self.inside.engine.state c.args.key.now (c.in-Some.entry, c.in-Some.ticket) c.remove_entry_with_own_hash.new.self.state c.invariant_holds.ensures.valid.numbered c.in-Some.ensures.step in
+    (out.0.operation, ap (λ s. s.outstanding) c.notify_invalidate-told.ensures.2 ∙ out.0.outstanding ∙ ap (λ m. insert m c.in-Some.ticket.0 out.0.operation) c.self.invariant)

@@ -1,4 +1,5 @@
 use Rattle.std.proofs.Common.{◌∙◌, refl, ap, Some, None}
+use Rattle.std.specs.FinMap.{insert}
 use Rattle.moka_parts.specs.State.{Meaning, is_disabled}
 use Rattle.moka_parts.proofs.RunKeeps.{keeps_itself}
 use Rattle.moka_drive.specs.Synchronous.{meaning_of}
@@ -40,3 +41,9 @@ returns-clause-gone g c =
     let as_key = removed_as_key g.K.PartialEq.eq (g.T.KeyTest.passes c.args.test.now) (g.met.T.KeyTest.one_key c.args.test.now) c.self.inside.engine.state (Some (c.in-Some.entry, c.in-Some.ticket)) c.remove_by.new.self.state c.in-Some.ensures.step in
     λ key passing. has_left g.K.PartialEq.eq key c.self.inside.engine.state c.remove_by.new.self.state c.notify_invalidate-told.new.self.state c.post.new.engine.state (Some (c.in-Some.entry, c.in-Some.ticket)) g.met.K.Eq.laws
     c.invariant_holds.ensures.valid (as_key key passing) c.notify_invalidate-told.ensures.2 c.post.ensures.keeps
+
+pub post-requires-clause-waiting : goal.post-requires-clause-waiting
+post-requires-clause-waiting g c =
+    let found = removed_some_key g.K.PartialEq.eq (g.T.KeyTest.passes c.args.test.now) (g.met.T.KeyTest.one_key c.args.test.now) c.self.inside.engine.state (c.in-Some.entry, c.in-Some.ticket) c.remove_by.new.self.state c.in-Some.ensures.step in
+    let out = remove_hands_out g.K.PartialEq.eq c.self.inside.engine.state found.0 (c.in-Some.entry, c.in-Some.ticket) c.remove_by.new.self.state c.invariant_holds.ensures.valid.numbered found.1 in
+    (out.0.operation, ap (λ s. s.outstanding) c.notify_invalidate-told.ensures.2 ∙ out.0.outstanding ∙ ap (λ m. insert m c.in-Some.ticket.0 out.0.operation) c.self.invariant)

@@ -1,20 +1,19 @@
 use Rattle.std.proofs.Common.{ℕ, Some, None, Ok, Err}
 use Rattle.moka_parts.specs.Hashing.{key_hash}
-use Rattle.moka_drive.specs.declared.error.GetWithRefused.TheVariants.{Lookup, Insert}
-use Rattle.moka_drive.proofs.Getting.{failed, got_refused, got_value, if_no_error, made_and_handed_out}
+use Rattle.moka_drive.proofs.Getting.{failed, got_refused, got_value, made_and_handed_out}
 use Rattle.moka_drive.proofs.cache.Cache.try_get_with.Goals as goal
 
 pub returns-in-Ok-Some : goal.returns-in-Ok-Some
 returns-in-Ok-Some g c =
     let hash_by : g.row.S.Denot → ℕ = λ h. key_hash g.S.BuildHasher g.S.Hasher.Hasher h (g.K.Hash.hash_input c.args.key) in
-    let came = if_no_error g.V.Clone.is_clone _ c.args.key (hash_by c.args.self.now.engine.hasher) c.args.now c.args.self.now c.get_hashed.new.self c.args.clock.now c.get_hashed.new.clock (λ a. g.F.FnOnce.post c.args.init tt a) None (Ok c.in-Ok-Some.value) (let there = got_value g.V.Clone.is_clone _ c.args.key hash_by c.args.now c.args.self.now c.get_hashed.new.self c.args.clock.now c.get_hashed.new.clock (λ v. g.F.FnOnce.post c.args.init tt (Ok v)) _ c.in-Ok-Some.value c.in-Ok-Some.field-0-is c.in-Ok-Some.ensures.made c.in-Ok-Some.ensures.counted c.in-Ok-Some.ensures.sees in (Ok there.0, there.1)) in
-    (None, came.0, came.1)
+    let came = got_value g.V.Clone.is_clone _ c.args.key hash_by c.args.now c.args.self.now c.get_hashed.new.self c.args.clock.now c.get_hashed.new.clock (λ a. g.F.FnOnce.post c.args.init tt a) _ c.in-Ok-Some.value c.in-Ok-Some.field-0-is c.in-Ok-Some.ensures.made c.in-Ok-Some.ensures.counted c.in-Ok-Some.ensures.sees in
+    (None, Ok (Ok came.0), came.1)
 
 pub returns-in-Err : goal.returns-in-Err
 returns-in-Err g c =
     let hash_by : g.row.S.Denot → ℕ = λ h. key_hash g.S.BuildHasher g.S.Hasher.Hasher h (g.K.Hash.hash_input c.args.key) in
-    let came = if_no_error g.V.Clone.is_clone _ c.args.key (hash_by c.args.self.now.engine.hasher) c.args.now c.args.self.now c.get_hashed.new.self c.args.clock.now c.get_hashed.new.clock (λ a. g.F.FnOnce.post c.args.init tt a) None (Err (Lookup c.args.key)) (Err None, got_refused g.V.Clone.is_clone _ c.args.key hash_by c.args.now c.args.self.now c.get_hashed.new.self c.args.clock.now c.get_hashed.new.clock (λ v. g.F.FnOnce.post c.args.init tt (Ok v)) c.in-Err.field-0 c.in-Err.ensures.made c.in-Err.ensures.counted c.in-Err.ensures.unchanged.0) in
-    (None, came.0, came.1)
+    let came = got_refused g.V.Clone.is_clone _ c.args.key hash_by c.args.now c.args.self.now c.get_hashed.new.self c.args.clock.now c.get_hashed.new.clock (λ a. g.F.FnOnce.post c.args.init tt a) c.in-Err.field-0 c.in-Err.ensures.made c.in-Err.ensures.counted c.in-Err.ensures.unchanged.0 in
+    (None, Err None, came)
 
 pub returns-in-Err-init : goal.returns-in-Err-init
 returns-in-Err-init g c =
@@ -25,11 +24,11 @@ returns-in-Err-init g c =
 pub returns-in-Ok-insert_made_hashed : goal.returns-in-Ok-insert_made_hashed
 returns-in-Ok-insert_made_hashed g c =
     let hash_by : g.row.S.Denot → ℕ = λ h. key_hash g.S.BuildHasher g.S.Hasher.Hasher h (g.K.Hash.hash_input c.args.key) in
-    let came = if_no_error g.V.Clone.is_clone _ c.args.key (hash_by c.args.self.now.engine.hasher) c.args.now c.args.self.now c.insert_made_hashed.new.self c.args.clock.now c.insert_made_hashed.new.clock (λ a. g.F.FnOnce.post c.args.init tt a) (Some c.in-Ok.value) (Ok c.in-Ok-insert_made_hashed.copy) (made_and_handed_out g.V.Clone.is_clone _ c.args.key hash_by c.args.now c.args.self.now c.get_hashed.new.self c.args.clock.now c.get_hashed.new.clock _ c.in-Ok-None.field-0-is c.in-Ok-None.ensures.made c.in-Ok-None.ensures.counted c.count_load.new.self c.count_load.ensures c.in-Ok-None.ensures.sees (λ v. g.F.FnOnce.post c.args.init tt (Ok v)) c.in-Ok.value c.in-Ok.ensures c.insert_made_hashed.new.self c.insert_made_hashed.new.clock c.insert_made_hashed.ensures.counted (Ok c.in-Ok-insert_made_hashed.copy) c.in-Ok-insert_made_hashed.ensures.made tt) in
+    let came = made_and_handed_out g.V.Clone.is_clone _ c.args.key hash_by c.args.now c.args.self.now c.get_hashed.new.self c.args.clock.now c.get_hashed.new.clock _ c.in-Ok-None.field-0-is c.in-Ok-None.ensures.made c.in-Ok-None.ensures.counted c.count_load.new.self c.count_load.ensures c.in-Ok-None.ensures.sees (λ a. g.F.FnOnce.post c.args.init tt a) c.in-Ok.value c.in-Ok.ensures c.insert_made_hashed.new.self c.insert_made_hashed.new.clock c.insert_made_hashed.ensures.counted (Ok c.in-Ok-insert_made_hashed.copy) c.in-Ok-insert_made_hashed.ensures.made tt in
     (Some (Ok c.in-Ok.value), came.0, came.1)
 
 pub returns-in-Err-insert_made_hashed : goal.returns-in-Err-insert_made_hashed
 returns-in-Err-insert_made_hashed g c =
     let hash_by : g.row.S.Denot → ℕ = λ h. key_hash g.S.BuildHasher g.S.Hasher.Hasher h (g.K.Hash.hash_input c.args.key) in
-    let came = if_no_error g.V.Clone.is_clone _ c.args.key (hash_by c.args.self.now.engine.hasher) c.args.now c.args.self.now c.insert_made_hashed.new.self c.args.clock.now c.insert_made_hashed.new.clock (λ a. g.F.FnOnce.post c.args.init tt a) (Some c.in-Ok.value) (Err (Insert c.in-Err-insert_made_hashed.refused)) (made_and_handed_out g.V.Clone.is_clone _ c.args.key hash_by c.args.now c.args.self.now c.get_hashed.new.self c.args.clock.now c.get_hashed.new.clock _ c.in-Ok-None.field-0-is c.in-Ok-None.ensures.made c.in-Ok-None.ensures.counted c.count_load.new.self c.count_load.ensures c.in-Ok-None.ensures.sees (λ v. g.F.FnOnce.post c.args.init tt (Ok v)) c.in-Ok.value c.in-Ok.ensures c.insert_made_hashed.new.self c.insert_made_hashed.new.clock c.insert_made_hashed.ensures.counted (Err c.in-Err-insert_made_hashed.refused) c.in-Err-insert_made_hashed.ensures.made c.in-Err-insert_made_hashed.ensures.back) in
+    let came = made_and_handed_out g.V.Clone.is_clone _ c.args.key hash_by c.args.now c.args.self.now c.get_hashed.new.self c.args.clock.now c.get_hashed.new.clock _ c.in-Ok-None.field-0-is c.in-Ok-None.ensures.made c.in-Ok-None.ensures.counted c.count_load.new.self c.count_load.ensures c.in-Ok-None.ensures.sees (λ a. g.F.FnOnce.post c.args.init tt a) c.in-Ok.value c.in-Ok.ensures c.insert_made_hashed.new.self c.insert_made_hashed.new.clock c.insert_made_hashed.ensures.counted (Err c.in-Err-insert_made_hashed.refused) c.in-Err-insert_made_hashed.ensures.made c.in-Err-insert_made_hashed.ensures.back in
     (Some (Ok c.in-Ok.value), came.0, came.1)

@@ -6,5 +6,5 @@ use Rattle.moka_engine.proofs.base_cache.BaseCache.get_with_hash.Goals as goal
 pub returns : goal.returns
 returns g c =
     let got = c.get_hashed.ensures in
-    let unasked = ignores_nothing (record {}) c.get_hashed.new.test (value_of (record_of_key g.K.PartialEq.eq c.args.self.now.state.records c.args.key.now)) got.0 got.1 in
+    let unasked = ignores_nothing (record {}) c.get_hashed.new.ignore_if (value_of (record_of_key g.K.PartialEq.eq c.args.self.now.state.records c.args.key.now)) got.0 got.1 in
     rw unasked at got.2

@@ -1,10 +1,7 @@
-use Rattle.moka_parts.specs.Records.{record_of_key}
-use Rattle.moka_engine.specs.Looks.{value_of}
-use Rattle.moka_engine.proofs.FindSteps.{ignores_nothing}
 use Rattle.moka_engine.proofs.base_cache.BaseCache.get_with_own_hash.Goals as goal
 
+pub get_by-requires : goal.get_by-requires
+get_by-requires g c = record { own = λ k same. rw (← g.met.K.Hash.respects_eq c.args.key.now k same) c.requires.own }
+
 pub returns : goal.returns
-returns g c =
-    let got = c.get_hashed.ensures in
-    let unasked = ignores_nothing (record {}) c.get_hashed.new.test (value_of (record_of_key g.K.PartialEq.eq c.args.self.now.state.records c.args.key.now)) got.0 got.1 in
-    rw unasked at got.2
+returns g c = c.get_by.ensures

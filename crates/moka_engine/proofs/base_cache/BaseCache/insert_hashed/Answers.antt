@@ -1,8 +1,11 @@
 use Rattle.std.proofs.Common.{refl, sym, ap}
 use Rattle.moka_parts.specs.declared.error.InsertError.TheVariants.{NumbersUsedUp}
-use Rattle.moka_engine.proofs.EngineSteps.{without_room, still_set}
+use Rattle.moka_engine.proofs.EngineSteps.{without_room, still_set, whole-roomier}
 use Rattle.moka_engine.proofs.InsertSteps.{whole-updated, whole-inserted, update_refused, update_returns, new_refused, new_returns}
 use Rattle.moka_engine.proofs.base_cache.BaseCache.insert_hashed.Goals as goal
+
+pub invariant_of-self-in-Err-reserve_operation : goal.invariant_of-self-in-Err-reserve_operation
+invariant_of-self-in-Err-reserve_operation g c = whole-roomier c.self.inside.inner c.reserve_operation.new.self c.self.invariant refl (ap without_room c.in-Err-reserve_operation.ensures.rest)
 
 pub returns-in-Err-reserve_operation : goal.returns-in-Err-reserve_operation
 returns-in-Err-reserve_operation g c =
@@ -26,6 +29,9 @@ returns g c =
     c.args.key c.args.hashes.hash c.args.value c.args.now c.self.invariant.cache c.notify.new.self c.update-old.new.self c.in-Some.handle.number c.in-Some.found there (sym c.in-Some.ensures.found) c.weigh-weight.result c.weigh-weight.ensures
     (λ p. c.in_default-reserve_operation.not-Err NumbersUsedUp (c.reserve_operation.ensures.used_up.1 p)) c.update-old.result.1 c.update-old.ensures.ticket c.expires_at_update-expires.result c.expires_at_update-expires.ensures
     (c.update-old.ensures.step c.in-Some.found (rw rest there)) c.update-old.result.0 (c.update-old.ensures.value c.in-Some.found (rw rest there)) c.cause_of_replacement-cause.result c.cause_of_replacement-cause.ensures c.notify.ensures
+
+pub invariant_of-self : goal.invariant_of-self
+invariant_of-self g c = whole-roomier c.self.inside.inner c.reserve_record.new.self c.self.invariant refl (ap without_room c.in-Err.ensures.rest)
 
 pub returns-in-Err : goal.returns-in-Err
 returns-in-Err g c =

@@ -1,9 +1,12 @@
 use Rattle.std.proofs.Common.{refl, sym, ap, ◌∙◌}
 use Rattle.moka_parts.proofs.Options.{none_by_test}
 use Rattle.moka_parts.specs.Records.{record_of_key}
-use Rattle.moka_engine.proofs.EngineSteps.{without_room}
+use Rattle.moka_engine.proofs.EngineSteps.{without_room, whole-roomier}
 use Rattle.moka_engine.proofs.RestoreSteps.{whole-restored}
 use Rattle.moka_engine.proofs.base_cache.BaseCache.restore.Goals as goal
+
+pub invariant_of-self : goal.invariant_of-self
+invariant_of-self g c = whole-roomier c.self.inside.inner c.reserve_record.new.self c.self.invariant refl (ap without_room c.in-Err.ensures.rest)
 
 pub invariant_of-self-2 : goal.invariant_of-self-2
 invariant_of-self-2 g c =

@@ -1,5 +1,5 @@
 use Rattle.std.proofs.Common.{sym, inl, inr, ◌∙◌}
-use Rattle.moka_parts.specs.Records.{record_of_key}
+use Rattle.moka_parts.specs.KeyTests.{record_by}
 use Rattle.moka_engine.proofs.FindSteps.{nothing_found, found_hidden, found_shown}
 use Rattle.moka_engine.proofs.base_cache.gets.find_unless.Goals as goal
 use Rattle.moka_engine.proofs.base_cache.gets.find_unless.Goals.{then-ignores-via-then-ignores, then-ignores-via-else-ignores+then-hide, then-ignores-via-else-ignores+else-hide+then-apply_predicates}
@@ -7,15 +7,15 @@ use Rattle.moka_engine.proofs.base_cache.gets.find_unless.Goals.{then-ignores-vi
 pub returns-in_err-handle : goal.returns-in_err-handle
 returns-in_err-handle g c =
     let m = c.args.moments.now in
-    let sought = record_of_key g.K.PartialEq.eq c.args.inner.now.kept.records c.args.sought.0.now in
-    rw c.from_residual.ensures (nothing_found g.I.ValueTest.asks c.args.inner.now.kept m.policy.now m.valid_after.now g.P.PredicateFn.says c.args.invalidator.now sought m.now.0 c.args.test.now (sym c.in_err-handle.ensures.found))
+    let sought = record_by (g.T.KeyTest.passes c.args.sought.0.now) c.args.inner.now.kept.records in
+    rw c.from_residual.ensures (nothing_found g.I.ValueTest.asks c.args.inner.now.kept m.policy.now m.valid_after.now g.P.PredicateFn.says c.args.invalidator.now sought m.now.0 c.args.ignore_if.now (sym c.in_err-handle.ensures.found))
 
 pub returns-then-ignores : goal.returns-then-ignores
 returns-then-ignores g c =
     let m = c.args.moments.now in
     let found = sym c.in_ok-handle.ensures.found in
-    let sought = record_of_key g.K.PartialEq.eq c.args.inner.now.kept.records c.args.sought.0.now in
-    let hidden = found_hidden g.I.ValueTest.asks c.args.inner.now.kept m.policy.now m.valid_after.now g.P.PredicateFn.says c.args.invalidator.now sought m.now.0 c.in_ok-handle.found found c.args.test.now c.ignores.new.self c.ignores.result (rw c.value.ensures at c.ignores.ensures) in
+    let sought = record_by (g.T.KeyTest.passes c.args.sought.0.now) c.args.inner.now.kept.records in
+    let hidden = found_hidden g.I.ValueTest.asks c.args.inner.now.kept m.policy.now m.valid_after.now g.P.PredicateFn.says c.args.invalidator.now sought m.now.0 c.in_ok-handle.found found c.args.ignore_if.now c.ignores.new.self c.ignores.result (rw c.value.ensures at c.ignores.ensures) in
     elim c.then-ignores.branch [
       | then-ignores-via-then-ignores w ↦ hidden (inl w.if-ignores.true)
       | then-ignores-via-else-ignores+then-hide w ↦ hidden (inr (inl (sym w.hide.ensures ∙ w.if-hide.true)))
@@ -26,6 +26,6 @@ pub returns : goal.returns
 returns g c =
     let m = c.args.moments.now in
     let found = sym c.in_ok-handle.ensures.found in
-    let sought = record_of_key g.K.PartialEq.eq c.args.inner.now.kept.records c.args.sought.0.now in
-    found_shown g.I.ValueTest.asks c.args.inner.now.kept m.policy.now m.valid_after.now g.P.PredicateFn.says c.args.invalidator.now sought m.now.0 c.in_ok-handle.found found c.args.test.now c.ignores.new.self c.ignores.result (rw c.value.ensures at c.ignores.ensures)
+    let sought = record_by (g.T.KeyTest.passes c.args.sought.0.now) c.args.inner.now.kept.records in
+    found_shown g.I.ValueTest.asks c.args.inner.now.kept m.policy.now m.valid_after.now g.P.PredicateFn.says c.args.invalidator.now sought m.now.0 c.in_ok-handle.found found c.args.ignore_if.now c.ignores.new.self c.ignores.result (rw c.value.ensures at c.ignores.ensures)
     c.in_ok-handle.handle (record { placed = c.in_ok-handle.ensures.handle; numbered = c.in_ok-handle.ensures.numbered; found = found; accepted = c.if-ignores.false; shown = sym c.hide.ensures ∙ c.if-hide.false; uncovered = c.if-apply_predicates.ensures })

@@ -1,26 +1,11 @@
-use Rattle.std.proofs.Common.{◌<◌, [], ◌∷◌, subst, ap, length, length-append, arith}
 use Rattle.moka_segments.proofs.Keys.{new_holds_none}
-use Rattle.moka_segments.proofs.NewSegments.{at_end, none_built, more_built, is_new}
 use Rattle.moka_segments.proofs.segmented.SegmentedCache.build_with_router.Goals as goal
 
-pub loop-index-init : goal.loop-index-init
-loop-index-init g c = record {
-  as_many = ap length c.new-segments.ensures.items;
-  built = none_built c.args.router c.args.max_capacity g.S.Clone.is_clone c.args.now.0 (λ index config. goal.F-post g c.args.make index config) c.new-segments.result.items c.new-segments.ensures.items;
-}
-
-pub loop-index-preserved : goal.loop-index-preserved
-loop-index-preserved g c = record {
-  as_many = omega (arith, ap length c.in-Ok.ensures.items, length-append c.loop-index.segments.items (c.in_ok-segment.segment ∷ []), c.loop-index.invariant.as_many);
-  built = more_built c.args.router c.args.max_capacity g.S.Clone.is_clone c.args.now.0 (λ index config. goal.F-post g c.args.make index config) c.loop-index.segments.items c.push.new.self.items c.in_ok-segment.segment c.loop-index.index c.make.result c.loop-index.invariant.built c.loop-index.invariant.as_many c.in-Ok.ensures.items c.make.ensures (rw c.with_share-config.ensures at c.in_ok-segment.ensures);
-}
-
-pub from_parts-requires : goal.from_parts-requires
-from_parts-requires g c = at_end (length c.loop-index.segments.items) c.loop-index.index c.count-index-end.result c.args.router.count c.loop-index.invariant.as_many c.loop-index-test.false c.loop-index.auto.index-end c.count-index-end.ensures.same
+pub invariant_of-result : goal.invariant_of-result
+invariant_of-result g c = c.in_ok-segments.ensures.as_many
 
 pub returns : goal.returns
-returns g c =
-    let as_many = at_end (length c.loop-index.segments.items) c.loop-index.index c.count-index-end.result c.args.router.count c.loop-index.invariant.as_many c.loop-index-test.false c.loop-index.auto.index-end c.count-index-end.ensures.same in
-    let some : 0 < c.args.router.count = subst (λ n. 0 < n) c.count-index-end.ensures.same c.count-index-end.ensures.some in
-    let new = is_new c.args.router c.args.max_capacity g.S.Clone.is_clone c.args.now.0 (λ index config. goal.F-post g c.args.make index config) c.loop-index.segments.items c.from_parts.result c.from_parts.ensures some as_many c.loop-index.invariant.built in
-    record { new = new; empty = new_holds_none c.args.router c.args.max_capacity g.S.Clone.is_clone c.args.now.0 (λ index config. goal.F-post g c.args.make index config) c.from_parts.result new }
+returns g c = record {
+  new = c.in_ok-segments.ensures;
+  empty = new_holds_none c.args.router c.args.max_capacity g.S.Clone.is_clone c.args.now.0 (λ index config. goal.F-post g c.args.make index config) _ c.in_ok-segments.ensures;
+}

@@ -1,4 +1,3 @@
-use Rattle.std.proofs.Common.{arith}
 use Rattle.moka_segments.specs.Routing.{segment_of}
 use Rattle.moka_segments.proofs.OneSegment.{holds_in}
 use Rattle.moka_parts.specs.Hashing.{key_hash}
@@ -6,6 +5,5 @@ use Rattle.moka_segments.proofs.segmented.SegmentedCache.contains_key.Goals as g
 
 pub returns : goal.returns
 returns g c =
-    holds_in (λ r. segment_of r.count (key_hash g.S.BuildHasher g.S.Hasher.Hasher r.hasher (g.K.Hash.hash_input c.args.key.now)))
-    c.self.inside.router c.self.inside.segments.items c.args.self.now c.self.view_is c.segment_of-index.result c.segment_of-index.ensures.place (omega (arith, c.self.invariant, c.segment_of-index.ensures.within))
+    holds_in (λ r. segment_of r.count (key_hash g.S.BuildHasher g.S.Hasher.Hasher r.hasher (g.K.Hash.hash_input c.args.key.now))) c.self.view_is c.segment_of-index.ensures.place (rw c.self.invariant c.segment_of-index.ensures.within)
     _ c.index.result.now c.index.ensures c.contains_key.ensures

@@ -1,12 +1,18 @@
-use Rattle.std.proofs.Common.{arith}
+use Rattle.std.proofs.Common.{◌∙◌}
+use Rattle.std.proofs.lemmas.List.{length-set}
 use Rattle.moka_segments.specs.Routing.{segment_of}
-use Rattle.moka_segments.proofs.OneSegment.{steps_in}
+use Rattle.moka_segments.proofs.OneSegment.{steps_in, within_all}
 use Rattle.moka_parts.specs.Hashing.{key_hash}
 use Rattle.moka_segments.proofs.segmented.SegmentedCache.get.Goals as goal
 
 pub returns : goal.returns
 returns g c =
     let e = c.get.ensures in
-    steps_in (λ r. segment_of r.count (key_hash g.S.BuildHasher g.S.Hasher.Hasher r.hasher (g.K.Hash.hash_input c.args.key.now)))
-    c.self.inside.router c.self.inside.segments.items c.args.self.now c.self.view_is c.segment_of-index.result c.segment_of-index.ensures.place (omega (arith, c.self.invariant, c.segment_of-index.ensures.within))
+    steps_in (λ r. segment_of r.count (key_hash g.S.BuildHasher g.S.Hasher.Hasher r.hasher (g.K.Hash.hash_input c.args.key.now))) c.self.view_is c.segment_of-index.ensures.place (rw c.self.invariant c.segment_of-index.ensures.within)
     _ c.index_mut-segment.result.now c.get.new.self c.index_mut-segment.ensures.value (record { made = e.made; value = e.value; shown = e.shown; found = e.found; unchanged = e.unchanged; counted = e.counted })
+
+pub index_mut-segment-requires : goal.index_mut-segment-requires
+index_mut-segment-requires g c = within_all c.self.inside.segments.ok.0 c.self.invariant c.segment_of-index.ensures.within
+
+pub invariant_of-self : goal.invariant_of-self
+invariant_of-self g c = length-set c.self.inside.segments.items c.segment_of-index.result c.get.new.self ∙ c.self.invariant

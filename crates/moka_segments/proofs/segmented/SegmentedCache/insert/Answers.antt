@@ -1,19 +1,18 @@
-use Rattle.std.proofs.Common.{◌<◌, sym, subst, ◌∙◌}
+use Rattle.std.proofs.Common.{◌∙◌}
 use Rattle.std.proofs.lemmas.List.{length-set}
 use Rattle.moka_segments.specs.Routing.{segment_of}
-use Rattle.moka_segments.proofs.OneSegment.{steps_in}
+use Rattle.moka_segments.proofs.OneSegment.{steps_in, within_all}
 use Rattle.moka_parts.specs.Hashing.{key_hash}
 use Rattle.moka_segments.proofs.segmented.SegmentedCache.insert.Goals as goal
 
 pub returns-clause-step : goal.returns-clause-step
 returns-clause-step g c =
     let e = c.insert.ensures in
-    steps_in (λ r. segment_of r.count (key_hash g.S.BuildHasher g.S.Hasher.Hasher r.hasher (g.K.Hash.hash_input c.args.key)))
-    c.self.inside.router c.self.inside.segments.items c.args.self.now c.self.view_is c.segment_of-index.result c.segment_of-index.ensures.place (rw c.self.invariant c.segment_of-index.ensures.within)
+    steps_in (λ r. segment_of r.count (key_hash g.S.BuildHasher g.S.Hasher.Hasher r.hasher (g.K.Hash.hash_input c.args.key))) c.self.view_is c.segment_of-index.ensures.place (rw c.self.invariant c.segment_of-index.ensures.within)
     _ c.index_mut-segment.result.now c.insert.new.self c.index_mut-segment.ensures.value (record { made = e.made; unchanged = e.unchanged; kept = e.kept; shown = e.shown; counted = e.counted })
 
 pub index_mut-segment-requires : goal.index_mut-segment-requires
-index_mut-segment-requires g c = subst (λ n. c.segment_of-index.result < n) (sym (c.self.inside.segments.ok.0 ∙ c.self.invariant)) c.segment_of-index.ensures.within
+index_mut-segment-requires g c = within_all c.self.inside.segments.ok.0 c.self.invariant c.segment_of-index.ensures.within
 
 pub invariant_of-self : goal.invariant_of-self
 invariant_of-self g c = length-set c.self.inside.segments.items c.segment_of-index.result c.insert.new.self ∙ c.self.invariant

@@ -1,6 +1,6 @@
 use Rattle.std.proofs.Common.{◌≡◌, length}
 use Rattle.moka_segments.specs.Built.{AreBuilt}
-use Rattle.moka_segments.proofs.segmented.SegmentedCache.build_with_router.Given as goal
+use Rattle.moka_segments.proofs.segmented.SegmentedCache.build_segments.Given as goal
 
 abbrev pub invariant-loop-index : goal.invariant-loop-index
 invariant-loop-index g l = record {

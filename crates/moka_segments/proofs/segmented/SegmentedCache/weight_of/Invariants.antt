@@ -1,6 +1,0 @@
-use Rattle.std.proofs.Common.{◌≡◌, take}
-use Rattle.moka_segments.specs.Whole.{total}
-use Rattle.moka_segments.proofs.segmented.SegmentedCache.weight_of.Given as goal
-
-abbrev pub invariant-loop-segment : goal.invariant-loop-segment
-invariant-loop-segment g l = l.sum ≡ total (λ s. s.engine.state.weight) (take l.segment-index l.segments)
