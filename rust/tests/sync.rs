@@ -331,8 +331,7 @@ fn a_listener_may_call_the_cache() {
     *own.lock().unwrap() = None;
 }
 
-/// Whether a call comes back. One that does not is left behind.
-// A cache whose listener calls it, and the keys that the listener was told of, by one call after the other.
+/// A cache whose listener calls it, and the keys that the listener was told of, by one call after the other.
 fn calling(
     builder: CacheBuilder<u32, u32>,
     call: fn(&Cache<u32, u32>, u32),
@@ -366,6 +365,7 @@ fn a_listener_is_never_called_within_itself() {
     assert_eq!(left.lock().unwrap().len(), 1000);
 }
 
+/// Whether a call comes back. One that does not is left behind.
 fn ends<R>(call: impl FnOnce() -> R + Send + 'static) -> bool {
     let (sender, ended) = mpsc::channel();
     thread::spawn(move || {
