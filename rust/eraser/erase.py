@@ -167,7 +167,7 @@ def renamed_tests(text):
     runtime = "a test's runtime"
     head = r"(#\[test\]\s*fn \w+)\(_?rt: HostRuntime\)([^{]*\{)"
     text = change(runtime, head, r"\1()\2\n    let rt = HostRuntime;", text)
-    text = change(runtime, r"\b(assert(?:_eq|_ne)?!)\(\s*rt;", r"\1(", text)
+    text = change(runtime, r"\b(assert(?:_eq|_ne)?!|panic!)\(\s*rt;", r"\1(", text)
     text = change("a test's text", r"\bformat!\(in [\w.()]+; ", "crate::support::test::text!(", text)
     repeated = r"\bvec!\[in [\w.()]+; ([^;\]]+); ([^\]]+)\]"
     text = change("a test's list", repeated, r"Vec::from_elem(Global, \1, \2)", text)

@@ -78,9 +78,10 @@ class Renames(unittest.TestCase):
         self.assertIn("    impl Clone for A {\n        fn clone(&self) -> Self {\n", made(inner))
 
     def test_tests(self):
-        text = "#[test]\nfn f(rt: HostRuntime) -> Result<(), Fail> {\n    assert_eq!(rt; 1, 1);\n}\n"
+        text = "#[test]\nfn f(rt: HostRuntime) -> Result<(), Fail> {\n    assert_eq!(rt; 1, 1);\n    panic!(rt; \"no\");\n}\n"
         out = made(text, "moka_tests")
-        self.assertIn("fn f() -> Result<(), Fail> {\n    let rt = HostRuntime;\n    assert_eq!( 1, 1);\n}\n", out)
+        body = "    let rt = HostRuntime;\n    assert_eq!( 1, 1);\n    panic!( \"no\");\n"
+        self.assertIn("fn f() -> Result<(), Fail> {\n" + body + "}\n", out)
         self.assertIn("use crate::support::test::prelude::*;", out)
 
 

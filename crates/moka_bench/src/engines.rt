@@ -89,18 +89,27 @@ impl<
         now: Instant,
         may_run: bool,
     ) -> Result<bool, OutOfMemory> {
-        if self.engine.is_map_disabled() {
+        let Some(ticket) = self.hand_out(key, value, now)? else {
             return Ok(false);
-        }
-        let hash = self.engine.hash(&key);
-        let Ok((ticket, _)) = self.engine.do_insert_with_own_hash(key, hash, value, now) else {
-            return Err(OutOfMemory);
         };
         if may_run {
             self.engine.apply_reads_writes_if_needed(now, &mut CLOCK);
         }
         match self.send(ticket, now) {
             Ok(()) => Ok(true),
+            Err(_) => Err(OutOfMemory),
+        }
+    }
+
+    // Puts a value under a key, if the engine keeps anything. The ticket of the operation.
+    #[inline(always)]
+    fn hand_out(&mut self, key: K, value: V, now: Instant) -> Result<Option<Ticket>, OutOfMemory> {
+        if self.engine.is_map_disabled() {
+            return Ok(None);
+        }
+        let hash = self.engine.hash(&key);
+        match self.engine.do_insert_with_own_hash(key, hash, value, now) {
+            Ok((ticket, _)) => Ok(Some(ticket)),
             Err(_) => Err(OutOfMemory),
         }
     }

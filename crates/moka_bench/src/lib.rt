@@ -9,8 +9,6 @@ ghost use Rattle.moka_bench.specs.declared.driver.Failure.TheVariants.{Malformed
 mod config;
 mod driver;
 mod engines;
-#[cfg(test)]
-mod equal;
 mod given;
 mod phases;
 mod subject;
@@ -57,11 +55,9 @@ pub extern "C" fn moka_bench_run(
     }
     let config = Config::read(config);
     let counted = if config.is_sip {
-        let hasher: BuildHasherDefault<DefaultHasher> = BuildHasherDefault::default();
-        run(alloc, hasher, config, stream)
+        run::<BuildHasherDefault<DefaultHasher>>(alloc, config, stream)
     } else {
-        let hasher: BuildHasherDefault<FoldHasher> = BuildHasherDefault::default();
-        run(alloc, hasher, config, stream)
+        run::<BuildHasherDefault<FoldHasher>>(alloc, config, stream)
     };
     match counted {
         Ok(counted) => {
@@ -74,40 +70,48 @@ pub extern "C" fn moka_bench_run(
 }
 
 // Drives a new cache through the stream.
-fn run<S: BuildHasher + Drop>(
+fn run<S: BuildHasher + Default + Drop>(
     alloc: Global,
-    hasher: S,
     config: Config,
     stream: &[u8],
 ) -> Result<Counts, Failure>
     ensures done { OnOk result (is_well_formed stream.now ≡ true) }
     ensures malformed { result ≡ Err Malformed → is_well_formed stream.now ≡ false }
 {
-    let (plain, is_automatic) = (config.plain(), config.is_automatic);
     if config.is_synchronous {
-        let made = Synchronous::new(alloc, hasher, plain, is_automatic);
-        return count(made, config, stream);
+        return count(
+            Synchronous::new(alloc, S::default(), config),
+            config,
+            stream,
+        );
     }
     if config.texts > 0 {
-        let made = Texts::new(alloc, hasher, plain, is_automatic, config.texts);
-        return count(made, config, stream);
+        return count(Texts::new(alloc, S::default(), config), config, stream);
     }
     if config.has_expiry {
-        let (hasher, given) = (Apart(hasher), plain.expire_after(BY_VALUE));
-        let made = Driven::new(alloc, hasher, given, is_automatic);
+        let given = config.plain().expire_after(BY_VALUE);
+        let made = Driven::new(alloc, Apart(S::default()), given, config.is_automatic);
         return count(made, config, stream);
     }
     if config.has_listener {
-        let (hasher, given) = (Apart(Apart(hasher)), plain.eviction_listener(Heard(0)));
-        let made = Driven::new(alloc, hasher, given, is_automatic);
+        let given = config.plain().eviction_listener(Heard(0));
+        let made = Driven::new(
+            alloc,
+            Apart(Apart(S::default())),
+            given,
+            config.is_automatic,
+        );
         return count(made, config, stream);
     }
     if config.has_weigher {
-        let (hasher, given) = (Apart(Apart(Apart(hasher))), plain.weigher(ByRemainder));
-        let made = Driven::new(alloc, hasher, given, is_automatic);
+        let (hasher, given) = (
+            Apart(Apart(Apart(S::default()))),
+            config.plain().weigher(ByRemainder),
+        );
+        let made = Driven::new(alloc, hasher, given, config.is_automatic);
         return count(made, config, stream);
     }
-    let made = Driven::new(alloc, hasher, plain, is_automatic);
+    let made = Driven::new(alloc, S::default(), config.plain(), config.is_automatic);
     count(made, config, stream)
 }
 
@@ -137,11 +141,14 @@ fn count<T: Subject + Drop>(
 #[cfg(test)]
 mod tests {
     use super::*;
-    use crate::equal::assert_equal;
     use std::alloc::AllocError;
+    use std::process::Abort;
     use std::test::Fail;
 
     const NONE: u64 = u64::MAX;
+
+    /// What is answered, with the first six counts.
+    type Outcome = (u64, [u64; 6]);
 
     fn bytes(alloc: Global, words: &[u64]) -> Result<Vec<u8>, AllocError> {
         let mut bytes = Vec::new(alloc);
@@ -158,22 +165,39 @@ mod tests {
         ]
     }
 
-    /// The answer for a configuration and a stream, with the first five counts.
-    fn counted(
-        alloc: Global,
-        config: &[u64],
-        stream: &[u64],
-    ) -> Result<(u64, [u64; 5]), AllocError> {
+    // The same with this number at this index, for the plain engine.
+    fn with(index: usize, number: u64, capacity: u64) -> [u64; 16] {
+        let mut config = plain(capacity, 0, 0);
+        if index < 16 {
+            config[index] = number;
+        }
+        config
+    }
+
+    // What comes of a configuration and a stream.
+    fn outcome(alloc: Global, config: &[u64], stream: &[u64]) -> Result<Outcome, AllocError> {
         let config = bytes(alloc, config)?;
         let stream = bytes(alloc, stream)?;
         let mut counts = [7; 64];
         let answer = moka_bench_run(alloc, &config, &stream, &mut counts);
         let (words, _) = counts.as_chunks::<8>();
-        let mut first = [0; 5];
+        let mut first = [0; 6];
         for (to, word) in first.iter_mut().zip(words) {
             *to = u64::from_le_bytes(*word);
         }
         Ok((answer, first))
+    }
+
+    // Ends the test if something else comes of a configuration and a stream.
+    fn expect(
+        rt: &(impl Abort + AllocGlobal),
+        config: &[u64],
+        stream: &[u64],
+        expected: Outcome,
+    ) -> Result<(), AllocError> {
+        let found = outcome(rt.alloc(), config, stream)?;
+        assert_eq!(rt; found, expected);
+        Ok(())
     }
 
     #[test]
@@ -183,15 +207,14 @@ mod tests {
             3, 4, 0, 0, 10, 20, 10, 30, 5, 0, 384, 0, 7, 3, 2, 0, 20, 10, 30, 6, 0, 5, 0,
         ];
         for (hasher, cache) in [(0, 0), (1, 0), (0, 1), (1, 1)] {
-            let (answer, counts) = counted(rt.alloc(), &plain(2, hasher, cache), &stream)?;
-            assert_equal(&rt, answer, 0);
-            assert_equal(&rt, counts, [3, 4, 3, 63, 2]);
+            let expected = (0, [3, 4, 3, 63, 2, 0]);
+            expect(&rt, &plain(2, hasher, cache), &stream, expected)?;
         }
         Ok(())
     }
 
     #[test]
-    fn goes_by_times_and_policy(rt: HostRuntime) -> Result<(), Fail> {
+    fn goes_by_times(rt: HostRuntime) -> Result<(), Fail> {
         // Two keys are put, one is read, and both are looked for: where reads count, what was read is still there.
         let stream = [
             2, 2, 0, 0, 10, 20, 5, 0, 384, 0, 6, 0, 5, 0, 1, 1, 0, 0, 10, 6, 0, 5, 0, 1, 2, 0, 0,
@@ -200,34 +223,26 @@ mod tests {
         for cache in [0, 1] {
             let mut lives = plain(NONE, 0, cache);
             lives[1] = 9;
-            let (_, counts) = counted(rt.alloc(), &lives, &stream)?;
-            assert_equal(&rt, counts, [1, 2, 2, 11, 0]);
+            expect(&rt, &lives, &stream, (0, [1, 2, 2, 11, 0, 0]))?;
             let mut idles = plain(NONE, 0, cache);
             idles[2] = 9;
-            let (_, counts) = counted(rt.alloc(), &idles, &stream)?;
-            assert_equal(&rt, counts, [2, 1, 2, 22, 1]);
+            expect(&rt, &idles, &stream, (0, [2, 1, 2, 22, 1, 0]))?;
         }
+        Ok(())
+    }
+
+    #[test]
+    fn goes_by_policy(rt: HostRuntime) -> Result<(), Fail> {
         // There is room for one: TinyLFU keeps the key that was asked for four times, LRU the newer one.
         let stream = [
             3, 4, 0, 0, 10, 10, 10, 10, 5, 0, 384, 0, 2, 1, 0, 0, 20, 5, 0, 384, 0, 1, 2, 0, 0, 10,
             20,
         ];
-        for (policy, kept) in [(0, 11), (1, 21)] {
-            let mut config = plain(1, 0, 0);
-            config[3] = policy;
-            let (_, counts) = counted(rt.alloc(), &config, &stream)?;
-            assert_equal(&rt, counts, [4, 2, 2, 33 + kept, 1]);
+        for (policy, sum) in [(0, 44), (1, 54)] {
+            let expected = (0, [4, 2, 2, sum, 1, 0]);
+            expect(&rt, &with(3, policy, 1), &stream, expected)?;
         }
         Ok(())
-    }
-
-    // A configuration with this number at this index.
-    fn with(index: usize, number: u64, capacity: u64) -> [u64; 16] {
-        let mut config = plain(capacity, 0, 0);
-        if index < 16 {
-            config[index] = number;
-        }
-        config
     }
 
     #[test]
@@ -236,47 +251,33 @@ mod tests {
         let stream = [
             3, 3, 0, 0, 1, 2, 1, 5, 0, 384, 0, 1, 2, 0, 0, 11, 2, 5, 0, 384, 0,
         ];
-        let (answer, counts) = counted(rt.alloc(), &with(8, 10, NONE), &stream)?;
-        assert_equal(&rt, (answer, counts), (0, [3, 2, 2, 49 + 49 + 50, 2]));
+        let sum = 49 + 49 + 50;
+        expect(&rt, &with(8, 10, NONE), &stream, (0, [3, 2, 2, sum, 2, 0]))?;
         // An expiry by values: of two keys the one whose value is less has expired.
         let stream = [
             4, 4, 0, 0, 10, 5, 20, 70, 6, 0, 6, 0, 1, 2, 0, 0, 10, 20, 5, 0, 384, 0,
         ];
-        let (answer, counts) = counted(rt.alloc(), &with(4, 1, NONE), &stream)?;
-        assert_equal(&rt, (answer, counts), (0, [1, 1, 2, 70, 1]));
+        expect(&rt, &with(4, 1, NONE), &stream, (0, [1, 1, 2, 70, 1, 0]))?;
         // Entries that weigh 12 and 16: one has to leave.
         let stream = [
             2, 2, 0, 0, 10, 14, 5, 0, 384, 0, 1, 2, 0, 0, 10, 14, 5, 0, 384, 0,
         ];
-        let (answer, counts) = counted(rt.alloc(), &with(12, 1, 20), &stream)?;
-        assert_equal(&rt, (answer, counts), (0, [1, 1, 2, 15, 1]));
-        Ok(())
-    }
-
-    #[test]
-    fn counts_what_a_listener_is_told(rt: HostRuntime) -> Result<(), Fail> {
-        // Two values of one key, and the older of two keys.
+        expect(&rt, &with(12, 1, 20), &stream, (0, [1, 1, 2, 15, 1, 0]))?;
+        // A listener is told of two values of one key, and of the older of two keys.
         let stream = [2, 3, 0, 0, 10, 10, 20, 5, 0, 384, 0];
-        let config = bytes(rt.alloc(), &with(11, 1, 1))?;
-        let stream = bytes(rt.alloc(), &stream)?;
-        let mut counts = [7; 64];
-        let answer = moka_bench_run(rt.alloc(), &config, &stream, &mut counts);
-        let (words, _) = counts.as_chunks::<8>();
-        assert_equal(&rt, (answer, u64::from_le_bytes(words[5])), (0, 2));
+        expect(&rt, &with(11, 1, 1), &stream, (0, [0, 0, 3, 0, 1, 2]))?;
         Ok(())
     }
 
     #[test]
     fn writes_nothing_where_it_fails(rt: HostRuntime) -> Result<(), Fail> {
-        let sevens = u64::from_le_bytes([7; 8]);
+        let sevens = [u64::from_le_bytes([7; 8]); 6];
         let malformed: [&[u64]; 3] = [&[9, 0, 0, 0], &[1, 2, 0, 0, 5], &[1, 0, 0]];
         for stream in malformed {
-            let (answer, counts) = counted(rt.alloc(), &plain(NONE, 0, 0), stream)?;
-            assert_equal(&rt, (answer, counts), (3, [sevens; 5]));
+            expect(&rt, &plain(NONE, 0, 0), stream, (3, sevens))?;
         }
         for (hasher, cache) in [(2, 0), (0, 2)] {
-            let (answer, counts) = counted(rt.alloc(), &plain(NONE, hasher, cache), &[])?;
-            assert_equal(&rt, (answer, counts), (1, [sevens; 5]));
+            expect(&rt, &plain(NONE, hasher, cache), &[], (1, sevens))?;
         }
         Ok(())
     }
@@ -291,9 +292,8 @@ mod tests {
             stream.push(key)?;
         }
         for cache in [0, 1] {
-            let (answer, counts) = counted(rt.alloc(), &plain(NONE, 0, cache), &stream)?;
-            assert_equal(&rt, answer, 0);
-            assert_equal(&rt, counts, [0, 0, 1000, 0, 1000]);
+            let expected = (0, [0, 0, 1000, 0, 1000, 0]);
+            expect(&rt, &plain(NONE, 0, cache), &stream, expected)?;
         }
         Ok(())
     }

@@ -691,8 +691,7 @@ impl<
         ensures empty { IfOk result (λ c. c ≡ fresh (new_engine config c.engine.hasher now.0 c.engine.room)) }
         ensures room { IfOk result (λ c. unwrap_or config.initial_capacity 0 ≤ c.engine.room) }
     {
-        let engine = config.build(alloc, now)?;
-        Ok(Cache::new(engine))
+        Cache::build_with_hasher(config, alloc, DefaultHasher::default(), now)
     }
 }
 

@@ -120,7 +120,7 @@ impl<
             (key_hash S.BuildHasher S.Hasher.Hasher self.old.engine.hasher (K.hash_input key)) now
             self.old clock.old self.new clock.new (F.post f) result }
     {
-        let hash = self.engine().hash(&key);
+        let hash = self.hash_of(&key);
         let Ok(seen) = self.get_hashed(&key, hash, now, clock) else {
             return Err(GetWithRefused::Lookup(key));
         };
@@ -156,7 +156,7 @@ impl<
             self.old clock.old self.new clock.new (λ seen op. (x : _) × (option_copied x ≡ seen)
             × F.post f x op) result }
     {
-        let hash = self.engine().hash(&key);
+        let hash = self.hash_of(&key);
         let Ok(seen) = self.get_hashed(&key, hash, now, clock) else {
             return Err(ComputeRefused::Lookup(key));
         };

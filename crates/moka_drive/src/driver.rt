@@ -100,15 +100,18 @@ fn make<
         (λ e. Leads C.reads clock.old e.readings clock.new × Leads I.gives ids.old e.ids ids.new) }
 {
     match call {
-        Call::Insert { key, value, .. } if cache.is_map_disabled() => {
-            Reply::Disabled { key, value }
-        }
         Call::Insert {
             key,
             hash,
             value,
             now,
-        } => Reply::Insert(cache.do_insert_with_hash(key, hash, value, now)),
+        } => {
+            if cache.is_map_disabled() {
+                Reply::Disabled { key, value }
+            } else {
+                Reply::Insert(cache.do_insert_with_hash(key, hash, value, now))
+            }
+        }
         Call::Send { ticket } => Reply::Send(cache.send(ticket)),
         Call::Get {
             key,

@@ -62,7 +62,7 @@ impl<
             (key_hash S.BuildHasher S.Hasher.Hasher self.old.engine.hasher (K.hash_input key)) now
             self.old clock.old self.new clock.new value result }
     {
-        let hash = self.engine().hash(&key);
+        let hash = self.hash_of(&key);
         match self.get_hashed(&key, hash, now, clock) {
             Ok(Some(value)) => return Ok(found(key, value)),
             Ok(None) => {}
@@ -149,7 +149,7 @@ impl<
             (key_hash S.BuildHasher S.Hasher.Hasher self.old.engine.hasher (K.hash_input key)) now
             self.old clock.old self.new clock.new (F.post init) result }
     {
-        let hash = self.engine().hash(&key);
+        let hash = self.hash_of(&key);
         match self.get_hashed(&key, hash, now, clock) {
             Ok(Some(value)) => return Ok(Ok(found(key, value))),
             Ok(None) => {}

@@ -1,72 +1,74 @@
 //! Worked saves of a cache, and caches made again from them.
-use crate::equal::assert_equal;
+use crate::cache::{NOW, Plain};
 use moka_drive::Cache;
 use moka_engine::{
     CacheConfig, ExpireAfter, FixedClock, Instant, NoExpiry, RestoreError, Restored,
 };
-use moka_timed::{ManualClock, TimedCache};
 use std::alloc::Global;
-use std::test::Fail;
+use std::process::Abort;
 use std::time::Duration;
 
-const START: Instant = Instant(0);
+// When a cache is saved.
+const LATER: Instant = Instant(55);
 
-fn idle(alloc: Global) -> Result<Cache<u64, u64>, Fail> {
+// What is listed then: key, value, the last access, and the nanoseconds that are left.
+const LISTED: [(u64, u64, u64, u64); 3] = [(2, 20, 20, 15), (3, 30, 30, 25), (1, 10, 40, 35)];
+
+fn idle(rt: &impl Abort, alloc: Global) -> Plain {
     let config = CacheConfig::default()
         .time_to_live(Duration::from_nanos(100))
         .time_to_idle(Duration::from_nanos(50));
-    let Ok(cache) = Cache::build(config, alloc, START) else {
-        return Err("memory".into());
+    let Ok(cache) = Cache::build(config, alloc, NOW) else {
+        panic!(rt; "memory");
     };
-    Ok(cache)
+    cache
 }
 
-// Three entries, of which the first was read last, and one that has gone.
-fn fill(cache: &mut Cache<u64, u64>) -> bool {
+// Puts a key in at each of these moments.
+fn insert_each(cache: &mut Plain) -> bool {
     let mut is_right = true;
     for (key, now) in [(4, 0), (1, 10), (2, 20), (3, 30)] {
         let (value, now) = (key * 10, Instant(now));
         is_right = is_right && cache.insert(key, value, now, &mut FixedClock(now)).is_ok();
     }
-    let now = Instant(40);
-    cache.run_pending_tasks(now, &mut FixedClock(now));
-    is_right && cache.get(&1, now, &mut FixedClock(now)).is_ok()
+    is_right
 }
 
-#[test]
-fn lists_in_the_order_of_access(rt: HostRuntime) -> Result<(), Fail> {
-    let mut cache = idle(rt.alloc())?;
-    let is_filled = fill(&mut cache);
-    let now = Instant(55);
+// Three entries, of which the first was read last, and one that has gone.
+fn fill(cache: &mut Plain) -> bool {
+    let now = Instant(40);
+    let are_in = insert_each(cache);
     cache.run_pending_tasks(now, &mut FixedClock(now));
-    let mut listed = Vec::new(rt.alloc());
-    for entry in cache.snapshot(now) {
-        let left = entry.remaining.map(|left| left.as_nanos());
-        listed.push((*entry.key, *entry.value, entry.last_accessed.0, left))?;
+    are_in && cache.get(&1, now, &mut FixedClock(now)).is_ok()
+}
+
+// Whether a run leaves entries that are listed in the order of access.
+fn lists(cache: &mut Plain) -> bool {
+    cache.run_pending_tasks(LATER, &mut FixedClock(LATER));
+    let mut listed = LISTED.iter();
+    for entry in cache.snapshot(LATER) {
+        let Some(&(key, value, accessed, left)) = listed.next() else {
+            return false;
+        };
+        if (*entry.key, *entry.value, entry.last_accessed.0) != (key, value, accessed)
+            || entry.remaining != Some(Duration::from_nanos(left))
+        {
+            return false;
+        }
     }
-    let wanted: [(u64, u64, u64, Option<u128>); 3] = [
-        (2, 20, 20, Some(15)),
-        (3, 30, 30, Some(25)),
-        (1, 10, 40, Some(35)),
-    ];
-    assert_equal(
-        &rt,
-        (is_filled, listed.as_slice()),
-        (true, wanted.as_slice()),
-    );
-    Ok(())
+    listed.next().is_none()
 }
 
 // Saves one cache, and puts into the other what was saved.
-fn copy(alloc: Global, first: &mut Cache<u64, u64>, second: &mut Cache<u64, u64>) -> bool {
-    let now = Instant(55);
-    match first.save(alloc, now, &mut FixedClock(now)) {
-        Ok(saved) => second.restore(saved, now, &mut FixedClock(now)).is_ok(),
+fn copies(alloc: Global, first: &mut Plain, second: &mut Plain) -> bool {
+    match first.save(alloc, LATER, &mut FixedClock(LATER)) {
+        Ok(saved) => second.restore(saved, LATER, &mut FixedClock(LATER)).is_ok(),
         Err(_) => false,
     }
 }
 
-fn agree(first: &Cache<u64, u64>, second: &Cache<u64, u64>, now: Instant) -> bool {
+// Whether the same keys are visible in both at this moment.
+fn agree_at(first: &Plain, second: &Plain, now: Instant) -> bool {
     for key in 0..5 {
         if first.contains_key(&key, now) != second.contains_key(&key, now) {
             return false;
@@ -75,120 +77,112 @@ fn agree(first: &Cache<u64, u64>, second: &Cache<u64, u64>, now: Instant) -> boo
     true
 }
 
-#[test]
-fn answers_as_before(rt: HostRuntime) -> Result<(), Fail> {
-    let (mut first, mut second) = (idle(rt.alloc())?, idle(rt.alloc())?);
-    let mut is_right = fill(&mut first) && copy(rt.alloc(), &mut first, &mut second);
+fn agree(first: &Plain, second: &Plain) -> bool {
     for later in 55..120 {
-        is_right = is_right && agree(&first, &second, Instant(later));
+        if !agree_at(first, second, Instant(later)) {
+            return false;
+        }
     }
-    let now = Instant(55);
-    let found = second.get(&1, now, &mut FixedClock(now));
-    assert_equal(&rt, (is_right, found.ok()), (true, Some(Some(10))));
-    Ok(())
+    true
+}
+
+// Whether a value that was put back is found.
+fn finds(cache: &mut Plain) -> bool {
+    matches!(cache.get(&1, LATER, &mut FixedClock(LATER)), Ok(Some(10)))
 }
 
 #[test]
-fn keeps_the_order_of_access(rt: HostRuntime) -> Result<(), Fail> {
-    let (mut first, mut second) = (idle(rt.alloc())?, idle(rt.alloc())?);
-    let is_right = fill(&mut first) && copy(rt.alloc(), &mut first, &mut second);
-    let now = Instant(55);
-    second.run_pending_tasks(now, &mut FixedClock(now));
-    let mut keys = Vec::new(rt.alloc());
-    for entry in second.snapshot(now) {
-        keys.push(*entry.key)?;
-    }
-    let wanted: [u64; 3] = [2, 3, 1];
-    assert_equal(&rt, (is_right, keys.as_slice()), (true, wanted.as_slice()));
-    Ok(())
+fn answers_as_before(rt: HostRuntime) {
+    let (mut first, mut second) = (idle(&rt, rt.alloc()), idle(&rt, rt.alloc()));
+    assert!(rt;
+        fill(&mut first) && lists(&mut first),
+        "in the order of access"
+    );
+    assert!(rt;
+        copies(rt.alloc(), &mut first, &mut second),
+        "saved and put back"
+    );
+    assert!(rt; agree(&first, &second), "visible in both");
+    assert!(rt; lists(&mut second), "in the same order");
+    assert!(rt; finds(&mut second), "with its value");
 }
 
-fn entry_of(key: u64, expires: Option<Instant>) -> Restored<u64, u64> {
+pub fn entry_of(key: u64, expires: Option<Instant>) -> Restored<u64, u64> {
     Restored {
         key,
         value: 1,
-        last_modified: START,
-        last_accessed: START,
+        last_modified: NOW,
+        last_accessed: NOW,
         expires,
     }
 }
 
 // Why an entry is refused, and that it comes back.
 fn refusal_of(
-    cache: &mut Cache<u64, u64>,
+    cache: &mut Plain,
     key: u64,
     expires: Option<Instant>,
 ) -> Option<(RestoreError, u64)> {
-    match cache.restore_entry(entry_of(key, expires), START, &mut FixedClock(START)) {
+    match cache.restore_entry(entry_of(key, expires), NOW, &mut FixedClock(NOW)) {
         Ok(()) => None,
         Err(refused) => Some((refused.error, refused.item.key)),
     }
 }
 
-// Which entry of a list is refused, and which stands behind it.
-fn refused_among(
-    cache: &mut Cache<u64, u64>,
-    items: Vec<Restored<u64, u64>>,
-) -> Option<(u64, Option<u64>)> {
-    match cache.restore(items, START, &mut FixedClock(START)) {
-        Ok(()) => None,
+fn refuses_entries(cache: &mut Plain) -> bool {
+    refusal_of(cache, 1, None).is_none()
+        && refusal_of(cache, 1, None) == Some((RestoreError::KeyPresent, 1))
+        && refusal_of(cache, 2, Some(Instant(9))) == Some((RestoreError::NoExpiry, 2))
+}
+
+// Whether the key 1 is refused among others, and the key 4 stands behind it.
+fn refuses_one(cache: &mut Plain, items: Vec<Restored<u64, u64>>) -> bool {
+    match cache.restore(items, NOW, &mut FixedClock(NOW)) {
+        Ok(()) => false,
         Err(mut refused) => {
-            let behind = refused.rest.next().map(|item| item.key);
-            Some((refused.refused.item.key, behind))
+            refused.refused.item.key == 1
+                && matches!(refused.rest.next(), Some(item) if item.key == 4)
         }
     }
 }
 
-#[test]
-fn refuses_what_it_cannot_keep(rt: HostRuntime) -> Result<(), Fail> {
-    let items = vec![in rt.alloc(); entry_of(3, None), entry_of(1, None), entry_of(4, None)]?;
-    let mut cache = idle(rt.alloc())?;
-    let first = refusal_of(&mut cache, 1, None);
-    let again = refusal_of(&mut cache, 1, None);
-    let other = refusal_of(&mut cache, 2, Some(Instant(9)));
-    let among = refused_among(&mut cache, items);
-    let is_there = cache.contains_key(&3, START);
-    let wanted = (
-        Some((RestoreError::KeyPresent, 1)),
-        Some((RestoreError::NoExpiry, 2)),
-    );
-    assert_equal(&rt, (first, (again, other)), (None, wanted));
-    assert_equal(&rt, (among, is_there), (Some((1, Some(4))), true));
-    Ok(())
+// Whether the second of three entries is refused, since its key is there, and the first is put back.
+fn refuses_the_second(alloc: Global, cache: &mut Plain) -> bool {
+    match vec![in alloc; entry_of(3, None), entry_of(1, None), entry_of(4, None)] {
+        Ok(items) => refuses_one(cache, items) && cache.contains_key(&3, NOW),
+        Err(_) => false,
+    }
 }
 
 #[test]
-fn asks_no_expiry(rt: HostRuntime) -> Result<(), Fail> {
+fn refuses_what_it_cannot_keep(rt: HostRuntime) {
+    let mut cache = idle(&rt, rt.alloc());
+    assert!(rt; refuses_entries(&mut cache), "one entry");
+    assert!(rt; refuses_the_second(rt.alloc(), &mut cache), "one of three");
+}
+
+type Expiring = Cache<u64, u64, ExpireAfter<NoExpiry, NoExpiry, NoExpiry>>;
+
+// Whether an entry expires when it did before it was put back.
+fn expires_as_before(cache: &mut Expiring) -> bool {
+    let entry = entry_of(1, Some(Instant(9)));
+    cache
+        .restore_entry(entry, NOW, &mut FixedClock(NOW))
+        .is_ok()
+        && cache.contains_key(&1, Instant(8))
+        && !cache.contains_key(&1, Instant(9))
+}
+
+#[test]
+fn asks_no_expiry(rt: HostRuntime) {
     let expiry = ExpireAfter {
         create: NoExpiry,
         read: NoExpiry,
         update: NoExpiry,
     };
     let config = CacheConfig::default().expire_after(expiry);
-    let Ok(mut cache) = Cache::<u64, u64, _>::build(config, rt.alloc(), START) else {
-        return Err("memory".into());
+    let Ok(mut cache) = Expiring::build(config, rt.alloc(), NOW) else {
+        panic!(rt; "memory");
     };
-    let mut clock = FixedClock(START);
-    let entry = entry_of(1, Some(Instant(9)));
-    assert!(rt; cache.restore_entry(entry, START, &mut clock).is_ok());
-    assert_equal(
-        &rt,
-        (
-            cache.contains_key(&1, Instant(8)),
-            cache.contains_key(&1, Instant(9)),
-        ),
-        (true, false),
-    );
-    Ok(())
-}
-
-#[test]
-fn puts_an_entry_back_by_its_own_clock(rt: HostRuntime) -> Result<(), Fail> {
-    let clock = ManualClock { now: START };
-    let Ok(mut cache) = TimedCache::build(CacheConfig::default(), rt.alloc(), clock) else {
-        return Err("memory".into());
-    };
-    assert!(rt; cache.restore_entry(entry_of(1, None)).is_ok());
-    assert!(rt; cache.contains_key(&1));
-    Ok(())
+    assert!(rt; expires_as_before(&mut cache));
 }

@@ -1,23 +1,64 @@
 //! Worked calls of a cache in segments.
-use crate::cache::{Below, OneId};
-use crate::equal::assert_equal;
-use moka_engine::{CacheConfig, FixedClock, Instant, NoExpiry, NoListener, PredicateError};
-use moka_segments::SegmentedCache;
+use crate::cache::NOW;
+use crate::predicates::{Below, OneId};
+use moka_drive::Cache;
+use moka_engine::{
+    CacheConfig, FixedClock, Instant, NoExpiry, NoListener, PredicateError, PredicateId,
+};
+use moka_segments::{RegisterRefused, SegmentedCache};
 use std::alloc::Global;
-use std::test::Fail;
+use std::process::Abort;
 use std::time::Duration;
 
-const NOW: Instant = Instant(0);
+type Segmented = SegmentedCache<u64, u64>;
 
-fn four_of(alloc: Global, capacity: u64) -> Result<SegmentedCache<u64, u64>, Fail> {
-    let make = |_| CacheConfig::default();
-    match SegmentedCache::build(4, Some(capacity), make, alloc, NOW) {
-        Ok(cache) => Ok(cache),
-        Err(_) => Err("memory".into()),
+const SECONDS: u64 = 5;
+
+#[derive(Clone, Copy)]
+enum Case {
+    FindsWhatWasPut,
+    AsksMakers,
+    TellsNameAndPolicy,
+    HidesAll,
+    ListsAll,
+}
+
+const CASES: [(Case, &str); 5] = [
+    (Case::FindsWhatWasPut, "what was put is found"),
+    (Case::AsksMakers, "makers may give nothing, and may fail"),
+    (Case::TellsNameAndPolicy, "name and policy are told"),
+    (Case::HidesAll, "all are hidden"),
+    (Case::ListsAll, "all that are visible are listed"),
+];
+
+#[test]
+fn answers_as_it_should(rt: HostRuntime) {
+    for (case, name) in CASES {
+        let mut cache = four_of(&rt, rt.alloc(), 1_001);
+        assert!(rt; is_right(&mut cache, case), "{name}");
     }
 }
 
-fn fill(cache: &mut SegmentedCache<u64, u64>, keys: u64) -> bool {
+// Four segments whose entries live for five seconds.
+fn four_of(rt: &impl Abort, alloc: Global, capacity: u64) -> Segmented {
+    let make = |_| CacheConfig::default().time_to_live(Duration::from_secs(SECONDS));
+    let Ok(cache) = SegmentedCache::build(4, Some(capacity), make, alloc, NOW) else {
+        panic!(rt; "memory");
+    };
+    cache
+}
+
+fn is_right(cache: &mut Segmented, case: Case) -> bool {
+    match case {
+        Case::FindsWhatWasPut => fill(cache, 200) && finds(cache, 200) && shrinks(cache),
+        Case::AsksMakers => asks_makers(cache),
+        Case::TellsNameAndPolicy => tells_name_and_policy(cache),
+        Case::HidesAll => fill(cache, 20) && cache.contains_key(&3, Instant(6)) && hides_all(cache),
+        Case::ListsAll => fill(cache, 200) && lists_all(cache),
+    }
+}
+
+fn fill(cache: &mut Segmented, keys: u64) -> bool {
     for key in 0..keys {
         if cache.insert(key, key, NOW, &mut FixedClock(NOW)).is_err() {
             return false;
@@ -26,7 +67,7 @@ fn fill(cache: &mut SegmentedCache<u64, u64>, keys: u64) -> bool {
     true
 }
 
-fn finds(cache: &mut SegmentedCache<u64, u64>, keys: u64) -> bool {
+fn finds(cache: &mut Segmented, keys: u64) -> bool {
     for key in 0..keys {
         if cache.get(&key, NOW, &mut FixedClock(NOW)) != Ok(Some(key)) {
             return false;
@@ -35,103 +76,52 @@ fn finds(cache: &mut SegmentedCache<u64, u64>, keys: u64) -> bool {
     true
 }
 
-// One more is made, and two go.
-fn shrink(cache: &mut SegmentedCache<u64, u64>) -> bool {
+// One more than 200 is made, and two go.
+fn shrinks(cache: &mut Segmented) -> bool {
     let clock = &mut FixedClock(NOW);
     let is_made = cache.get_with(200, || 200, NOW, clock).is_ok();
     let is_removed = cache.remove(&7, NOW, clock).is_ok();
     let is_invalidated = cache.invalidate(&8, NOW, clock).is_ok();
     cache.run_pending_tasks(NOW, clock);
-    is_made && is_removed && is_invalidated
+    is_made
+        && is_removed
+        && is_invalidated
+        && (cache.entry_count(), cache.weighted_size()) == (199, 199)
+        && (cache.stats().hits, cache.stats().misses) == (200, 1)
 }
 
-#[test]
-fn finds_what_was_put(rt: HostRuntime) -> Result<(), Fail> {
-    let mut cache = four_of(rt.alloc(), 1_001)?;
-    let is_right = fill(&mut cache, 200) && finds(&mut cache, 200) && shrink(&mut cache);
-    let (entries, weight, stats) = (cache.entry_count(), cache.weighted_size(), cache.stats());
-    assert_equal(
-        &rt,
-        (is_right, entries, weight, stats.hits, stats.misses),
-        (true, 199, 199, 200, 1),
-    );
-    Ok(())
-}
-
-#[test]
-fn asks_makers_that_give_nothing(rt: HostRuntime) -> Result<(), Fail> {
-    let mut cache = four_of(rt.alloc(), 1_001)?;
+fn asks_makers(cache: &mut Segmented) -> bool {
     let clock = &mut FixedClock(NOW);
     let declined = cache.optionally_get_with(1, || None, NOW, clock);
     let failed = cache.try_get_with(1, || Err(7), NOW, clock);
     let made = cache.try_get_with(1, || Ok::<u64, u64>(10), NOW, clock);
     let found = cache.optionally_get_with(1, || Some(20), NOW, clock);
-    assert_equal(
-        &rt,
-        (declined.ok(), found.ok()),
-        (Some(None), Some(Some(10))),
-    );
-    assert_equal(&rt, (failed.ok(), made.ok()), (Some(Err(7)), Some(Ok(10))));
-    Ok(())
+    matches!(declined, Ok(None))
+        && matches!(failed, Ok(Err(7)))
+        && matches!(made, Ok(Ok(10)))
+        && matches!(found, Ok(Some(10)))
 }
 
-#[test]
-fn shares_the_capacity(rt: HostRuntime) -> Result<(), Fail> {
-    let mut cache = four_of(rt.alloc(), 42)?;
-    let is_full = fill(&mut cache, 500);
-    cache.run_pending_tasks(NOW, &mut FixedClock(NOW));
-    let (whole, is_within) = (cache.max_capacity(), cache.weighted_size() <= 42);
-    let (router, segments) = cache.into_parts();
-    let mut are_shares = router.count() == 4;
-    for (segment, most) in segments.iter().zip([11, 11, 10, 10]) {
-        are_shares = are_shares && segment.policy().max_capacity() == Some(most);
-    }
-    assert_equal(
-        &rt,
-        (is_full, whole, is_within, are_shares),
-        (true, Some(42), true, true),
-    );
-    Ok(())
-}
-
-#[test]
-fn tells_name_and_policy(rt: HostRuntime) -> Result<(), Fail> {
-    let make = |_| CacheConfig::default().time_to_live(Duration::from_secs(5));
-    let cache = SegmentedCache::<u64, u64>::build(4, Some(42), make, rt.alloc(), NOW);
-    let Ok(cache) = cache else {
-        return Err("memory".into());
-    };
+fn tells_name_and_policy(cache: &Segmented) -> bool {
     let policy = cache.policy();
-    let (most, lasting) = (policy.max_capacity(), policy.time_to_live());
-    assert_equal(
-        &rt,
-        (cache.name().is_none(), most, lasting),
-        (true, Some(42), Some(Duration::from_secs(5))),
-    );
-    Ok(())
+    cache.name().is_none()
+        && policy.max_capacity() == Some(1_001)
+        && policy.time_to_live() == Some(Duration::from_secs(SECONDS))
 }
 
-fn shows_any(cache: &SegmentedCache<u64, u64>, keys: u64, now: Instant) -> bool {
-    for key in 0..keys {
-        if cache.contains_key(&key, now) {
-            return true;
+// Whether none of 20 keys is shown that were put in before all are hidden.
+fn hides_all(cache: &mut Segmented) -> bool {
+    cache.invalidate_all(Instant(5));
+    for key in 0..20 {
+        if cache.contains_key(&key, Instant(6)) {
+            return false;
         }
     }
-    false
-}
-
-#[test]
-fn hides_all(rt: HostRuntime) -> Result<(), Fail> {
-    let mut cache = four_of(rt.alloc(), 100)?;
-    let is_full = fill(&mut cache, 20) && cache.contains_key(&3, Instant(6));
-    cache.invalidate_all(Instant(5));
-    let is_shown = shows_any(&cache, 20, Instant(6));
-    assert_equal(&rt, (is_full, is_shown), (true, false));
-    Ok(())
+    true
 }
 
 // How many entries are listed, and the sum of their keys.
-fn listed(cache: &SegmentedCache<u64, u64>, now: Instant) -> Option<(u64, u64)> {
+fn listed(cache: &Segmented, now: Instant) -> Option<(u64, u64)> {
     let Ok(entries) = cache.iter(now) else {
         return None;
     };
@@ -142,37 +132,58 @@ fn listed(cache: &SegmentedCache<u64, u64>, now: Instant) -> Option<(u64, u64)> 
     Some((count, sum))
 }
 
-#[test]
-fn lists_all(rt: HostRuntime) -> Result<(), Fail> {
-    let mut cache = four_of(rt.alloc(), 1_000)?;
-    let is_full = fill(&mut cache, 200);
-    let all = listed(&cache, NOW);
+// Whether 200 keys are listed, and once they are hidden one that is put in then.
+fn lists_all(cache: &mut Segmented) -> bool {
+    let (all, later) = (listed(cache, NOW), Instant(6));
     cache.invalidate_all(Instant(5));
-    let later = Instant(6);
     let is_put = cache.insert(300, 1, later, &mut FixedClock(later)).is_ok();
-    let visible = listed(&cache, later);
-    assert_equal(
-        &rt,
-        (is_full, all, is_put, visible),
-        (true, Some((200, 19_900)), true, Some((1, 300))),
-    );
-    Ok(())
+    all == Some((200, 19_900)) && is_put && listed(cache, later) == Some((1, 300))
+}
+
+// Whether a cache that was full keeps no more than 42.
+fn keeps_42(cache: &mut Segmented) -> bool {
+    let is_full = fill(cache, 500);
+    cache.run_pending_tasks(NOW, &mut FixedClock(NOW));
+    is_full && cache.max_capacity() == Some(42) && cache.weighted_size() <= 42
+}
+
+// Whether each segment has its share of 42.
+fn have_shares(segments: &[Cache<u64, u64>]) -> bool {
+    for (segment, most) in segments.iter().zip([11, 11, 10, 10]) {
+        if segment.policy().max_capacity() != Some(most) {
+            return false;
+        }
+    }
+    true
+}
+
+#[test]
+fn shares_the_capacity(rt: HostRuntime) {
+    let mut cache = four_of(&rt, rt.alloc(), 42);
+    assert!(rt; keeps_42(&mut cache));
+    let (router, segments) = cache.into_parts();
+    assert!(rt; router.count() == 4 && have_shares(&segments));
 }
 
 type Tested = SegmentedCache<u64, u64, NoExpiry, NoListener, Below>;
 
-// Four segments that hold the keys below 40, each as its own value.
-fn four_tested(alloc: Global) -> Result<Tested, Fail> {
+// Four segments.
+fn four_tested(rt: &impl Abort, alloc: Global) -> Tested {
     let make = |_| CacheConfig::default().support_invalidation_closures::<Below>();
-    let Ok(mut cache) = SegmentedCache::build(4, Some(100), make, alloc, NOW) else {
-        return Err("memory".into());
+    let Ok(cache) = SegmentedCache::build(4, Some(100), make, alloc, NOW) else {
+        panic!(rt; "memory");
     };
+    cache
+}
+
+// Puts the keys below 40 in, each as its own value.
+fn fill_tested(cache: &mut Tested) -> bool {
     for key in 0..40 {
         if cache.insert(key, key, NOW, &mut FixedClock(NOW)).is_err() {
-            return Err("memory".into());
+            return false;
         }
     }
-    Ok(cache)
+    true
 }
 
 // Whether exactly the keys from ten on are shown, and those below that belong to the segments from this one on.
@@ -186,47 +197,53 @@ fn hides_below_ten(cache: &Tested, from: usize) -> bool {
     true
 }
 
-#[test]
-fn hides_what_a_predicate_covers(rt: HostRuntime) -> Result<(), Fail> {
-    let mut cache = four_tested(rt.alloc())?;
-    let Ok(ids) = cache.invalidate_entries_if(|| Below(10), NOW, &mut OneId) else {
-        return Err("memory".into());
-    };
-    assert_equal(&rt, (ids.len(), hides_below_ten(&cache, 4)), (4, true));
-    Ok(())
+// Hides the values below ten.
+fn hide(cache: &mut Tested) -> Result<Vec<PredicateId>, RegisterRefused<Below>> {
+    cache.invalidate_entries_if(|| Below(10), NOW, &mut OneId)
 }
 
-// The third segment has no free identifier.
-fn with_one_taken(cache: Tested) -> Result<Tested, Fail> {
-    let (router, mut segments) = cache.into_parts();
-    let Some(segment) = segments.get_mut(2) else {
-        return Err("too few segments".into());
-    };
-    if segment
-        .invalidate_entries_if(Below(0), NOW, &mut OneId)
-        .is_err()
-    {
-        return Err("memory".into());
+// Whether a predicate hides what it covers in each segment.
+fn hides_in_each(cache: &mut Tested) -> bool {
+    match hide(cache) {
+        Ok(ids) => ids.len() == 4 && hides_below_ten(cache, 4),
+        Err(_) => false,
     }
-    Ok(SegmentedCache::from_parts(router, segments))
+}
+
+// Whether the third segment takes an identifier.
+fn takes_id(segments: &mut [Cache<u64, u64, NoExpiry, NoListener, Below>]) -> bool {
+    match segments.get_mut(2) {
+        Some(segment) => segment
+            .invalidate_entries_if(Below(0), NOW, &mut OneId)
+            .is_ok(),
+        None => false,
+    }
+}
+
+// Whether a predicate hides what it covers in the first two segments, and the third has no free identifier.
+fn hides_in_two(cache: &mut Tested) -> bool {
+    match hide(cache) {
+        Ok(_) => false,
+        Err(refused) => {
+            refused.refused.error == PredicateError::NoFreeId
+                && refused.refused.predicate.0 == 10
+                && refused.done.len() == 2
+                && hides_below_ten(cache, 2)
+        }
+    }
 }
 
 #[test]
-fn says_which_segments_have_a_predicate(rt: HostRuntime) -> Result<(), Fail> {
-    let mut cache = with_one_taken(four_tested(rt.alloc())?)?;
-    let Err(refused) = cache.invalidate_entries_if(|| Below(10), NOW, &mut OneId) else {
-        return Err("registered".into());
-    };
-    let (error, done) = (refused.refused.error, refused.done.len());
-    assert_equal(
-        &rt,
-        (
-            error,
-            refused.refused.predicate.0,
-            done,
-            hides_below_ten(&cache, 2),
-        ),
-        (PredicateError::NoFreeId, 10, 2, true),
-    );
-    Ok(())
+fn hides_what_a_predicate_covers(rt: HostRuntime) {
+    let mut cache = four_tested(&rt, rt.alloc());
+    assert!(rt; fill_tested(&mut cache) && hides_in_each(&mut cache));
+}
+
+#[test]
+fn says_which_segments_have_a_predicate(rt: HostRuntime) {
+    let mut cache = four_tested(&rt, rt.alloc());
+    assert!(rt; fill_tested(&mut cache));
+    let (router, mut segments) = cache.into_parts();
+    assert!(rt; takes_id(&mut segments));
+    assert!(rt; hides_in_two(&mut SegmentedCache::from_parts(router, segments)));
 }

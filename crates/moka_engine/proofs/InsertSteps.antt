@@ -28,18 +28,18 @@ use Rattle.moka_engine.proofs.EngineSteps.{with_inner, cache_with, order_and_has
 
 -- ---- refusals
 
-not_at_least : (a b : ℕ) → (a ≤ b → ⊥) → nat_le a b ≡ false
+pub not_at_least : (a b : ℕ) → (a ≤ b → ⊥) → nat_le a b ≡ false
 not_at_least a b h = grind arith
 
 at_least : (a b : ℕ) → a ≤ b → nat_le a b ≡ true
 at_least a b h = grind arith
 
 -- room refused for this reason
-abbrev refusal : InsertError → Result (Unit {0}) InsertError
+abbrev pub refusal : InsertError → Result (Unit {0}) InsertError
 refusal e = Err e
 
 -- the error is the one that the tickets that are left ask for
-has_error : {K V X P W : Type 0} (s : State K V X P W) (more : ℕ) (e : InsertError) → (refusal e ≡ refusal NumbersUsedUp) ↔ (2 ^ 64 ≤ s.next_ticket + len s.records + more) → HasInsertError s more e
+pub has_error : {K V X P W : Type 0} (s : State K V X P W) (more : ℕ) (e : InsertError) → (refusal e ≡ refusal NumbersUsedUp) ↔ (2 ^ 64 ≤ s.next_ticket + len s.records + more) → HasInsertError s more e
 has_error s more NumbersUsedUp h = at_least (2 ^ 64) (s.next_ticket + len s.records + more) (h.0 refl)
 has_error s more OutOfMemory h = not_at_least (2 ^ 64) (s.next_ticket + len s.records + more) (λ up. let e = h.1 up in cc)
 

@@ -1,10 +1,11 @@
 -- A send keeps what always holds of a cache, and tells nobody.
-use Rattle.std.proofs.Common.{◌≡◌, ℕ, Bool, [], ◌∷◌, ◌++◌, Option, Some, Result, Ok, Err, OnOk, OnErr, refl, ap, sym, subst, ◌∙◌}
+use Rattle.std.proofs.Common.{◌≡◌, ◌↔◌, ℕ, ◌<◌, ◌≤◌, Bool, [], ◌∷◌, ◌++◌, length, Option, Some, None, Result, Ok, Err, OnOk, OnErr, refl, ap, sym, subst, ◌∙◌}
 use Rattle.std.specs.FinMap.{get, remove}
 use Rattle.moka_parts.specs.declared.error.SendError.{SendError}
+use Rattle.moka_parts.specs.declared.error.SendError.TheVariants.{UnknownTicket, QueueFull}
 use Rattle.moka_parts.specs.declared.records.Operation.{Operation}
 use Rattle.moka_parts.specs.declared.notification.RemovalCause.{RemovalCause}
-use Rattle.moka_parts.specs.Calls.{no_events}
+use Rattle.moka_parts.specs.Calls.{no_events, queue_length, SendsAt, SendStep}
 use Rattle.moka_parts.specs.Runs.{Engine, Befalls}
 use Rattle.moka_parts.specs.State.{State}
 use Rattle.moka_parts.proofs.StepsKeep.{sent_valid}
@@ -38,3 +39,23 @@ module _ {K V S : Type 0} (i j : Interior K V S) (ticket : ℕ) where
   -- nobody is told
   pub befalls-sent : {X L P W : Type 0} (tells : L → K → V → RemovalCause → L → Type 0) {old now : Engine K V S X L P W} → old ≡ now → cache_with old i ≡ old → (a : Result (Unit {0}) SendError) → Sends a → Befalls tells no_events now (cache_with old j)
   befalls-sent tells {old} is held a sent = subst (λ c. Befalls tells no_events c (cache_with old j)) is (befalls-inside old i j held (ap order_and_hasher (send-keeps a sent)) tells)
+
+  -- it is the reference cache's step
+  step-inside : {X P W : Type 0} (s : State K V X P W) (a : Result (Unit {0}) SendError) → ((a ≡ Err UnknownTicket) ↔ (get i.outstanding ticket ≡ None)) → (a ≡ Err QueueFull → queue_length ≤ length i.writes) → OnOk a (length i.writes < queue_length) → Sends a → SendStep (with_inner s i) ticket a (with_inner s j)
+  step-inside s a unknown full room sent = go (get i.outstanding ticket) refl a unknown full room sent
+    where
+      go : (o : Option Operation) → get i.outstanding ticket ≡ o → (a : Result (Unit {0}) SendError) → ((a ≡ Err UnknownTicket) ↔ (get i.outstanding ticket ≡ None)) → (a ≡ Err QueueFull → queue_length ≤ length i.writes) → OnOk a (length i.writes < queue_length) → Sends a → SendsAt (with_inner s i) ticket o a (with_inner s j)
+      go (Some o) e (Ok _) unknown full room sent =
+          let there : Some sent.0.0 ≡ Some o = sym sent.0.1 ∙ e in
+          let same : sent.0.0 ≡ o = cc in
+          (room, ap (with_inner s) sent.0.2 ∙ ap (λ (o : Operation). with_inner s (record i { outstanding = remove i.outstanding ticket; writes = i.writes ++ record { ticket = ticket; operation = o } ∷ [] })) same)
+      go (Some o) e (Err QueueFull) unknown full room sent = (full refl, ap (with_inner s) sent.1)
+      go (Some o) e (Err UnknownTicket) unknown full room sent = (let none = sym e ∙ unknown.0 refl in cc)
+      go None e (Ok _) unknown full room sent = (let some : None ≡ Some sent.0.0 = sym e ∙ sent.0.1 in cc)
+      go None e (Err UnknownTicket) unknown full room sent = ap (with_inner s) sent.1
+      go None e (Err QueueFull) unknown full room sent = (let same = unknown.1 e in cc)
+
+  pub step-sent : {X L P W : Type 0} {old now : Engine K V S X L P W} → old ≡ now → cache_with old i ≡ old → (a : Result (Unit {0}) SendError) → ((a ≡ Err UnknownTicket) ↔ (get i.outstanding ticket ≡ None)) → (a ≡ Err QueueFull → queue_length ≤ length i.writes) → OnOk a (length i.writes < queue_length) → Sends a → SendStep now.state ticket a (with_inner old.state j)
+  step-sent {X} {L} {P} {W} {old} is held a unknown full room sent =
+      let first = subst (λ (c : Engine K V S X L P W). SendStep c.state ticket a (with_inner old.state j)) held (step-inside old.state a unknown full room sent) in
+      subst (λ (c : Engine K V S X L P W). SendStep c.state ticket a (with_inner old.state j)) is first

@@ -66,7 +66,7 @@ impl Drop for Request {
 }
 
 /// What a word of the arguments is.
-#[derive(Clone, Copy, PartialEq, Eq)]
+#[derive(Clone, Copy)]
 enum Place {
     /// An option, the capacities or a trace.
     Any,
@@ -112,7 +112,7 @@ impl Request {
         if request.is_help {
             return Ok(request);
         }
-        if place != Place::Any {
+        if !matches!(place, Place::Any) {
             bail!("the last option is without its value");
         }
         request.check()?;
@@ -176,7 +176,7 @@ impl Request {
 /// What cannot be read.
 pub fn named_trace(name: &str) -> Result<Origin<'_>> {
     let Some((kind, rest)) = name.split_once(':') else {
-        bail!("no trace has the name {name:?}; --help shows all");
+        return no_trace(name);
     };
     match kind {
         "loop" => Ok(Origin::Made(Shape::Loop, count(rest)?)),
@@ -187,8 +187,13 @@ pub fn named_trace(name: &str) -> Result<Origin<'_>> {
         "timed" => Ok(Origin::Read(Format::Timed, rest)),
         "arc" => Ok(Origin::Read(Format::Arc, rest)),
         "lirs" => Ok(Origin::Read(Format::Lirs, rest)),
-        _ => bail!("no trace has the name {name:?}; --help shows all"),
+        _ => no_trace(name),
     }
+}
+
+/// Refuses a name.
+fn no_trace(name: &str) -> Result<Origin<'_>> {
+    bail!("no trace has the name {name:?}; --help shows all")
 }
 
 /// The exponent and the number of keys of a Zipf law.
@@ -196,9 +201,7 @@ fn zipf(text: &str) -> Result<Origin<'_>> {
     let Some((exponent, keys)) = text.split_once(':') else {
         bail!("a trace by a Zipf law is named zipf:HUNDREDTHS:KEYS");
     };
-    let hundredths = exponent
-        .parse::<u32>()
-        .context(format_args!("reading {exponent:?}"))?;
+    let hundredths = small_number(exponent)?;
     if hundredths == 0 || hundredths >= 100 {
         bail!("an exponent is from 1 to 99 hundredths");
     }
@@ -207,13 +210,19 @@ fn zipf(text: &str) -> Result<Origin<'_>> {
 
 /// A number above 0, of 32 bits.
 fn count(text: &str) -> Result<u32> {
-    let count = text
-        .parse::<u32>()
-        .context(format_args!("reading {text:?}"))?;
+    let count = small_number(text)?;
     if count == 0 {
         bail!("a number of keys is above 0");
     }
     Ok(count)
+}
+
+/// A number of 32 bits.
+fn small_number(text: &str) -> Result<u32> {
+    let number = text
+        .parse::<u32>()
+        .context(format_args!("reading {text:?}"))?;
+    Ok(number)
 }
 
 /// A number.

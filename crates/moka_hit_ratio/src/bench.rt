@@ -7,11 +7,10 @@ use crate::read_through::ReadThrough;
 use crate::row::Row;
 use crate::tally::Tally;
 use anyhow::Result;
-use moka_engine::EvictionPolicy;
+use moka_engine::{EvictionPolicy, OutOfMemory};
 use std::alloc::Global;
 
 /// The caches of a capacity.
-#[derive(Drop)]
 struct Caches {
     tiny_lfu: ReadThrough,
     lru: ReadThrough,
@@ -19,9 +18,21 @@ struct Caches {
     row: Row,
 }
 
+// Written out so that an owner's drop is one call.
+impl Drop for Caches {
+    fn drop(self) {
+        let Caches {
+            tiny_lfu: _,
+            lru: _,
+            fifo: _,
+            row: _,
+        } = self;
+    }
+}
+
 impl Caches {
     /// Empty caches.
-    fn new(alloc: Global, capacity: u64) -> Result<Self> {
+    fn new(alloc: Global, capacity: u64) -> Result<Self, OutOfMemory> {
         let none = Tally::new();
         Ok(Caches {
             tiny_lfu: ReadThrough::new(alloc, capacity, EvictionPolicy::tiny_lfu())?,

@@ -111,14 +111,11 @@ fn draw_ratios<W: Write>(out: &mut W, scales: Scales) -> io::Result<()> {
             let y = scales.down(ratio);
             let percent = tick * 10;
             let class = if tick == 0 { "axis" } else { "grid" };
-            writeln!(
-                out,
-                "<line class='{class}' x1='{LEFT}' y1='{y}' x2='{right}' y2='{y}'/>"
-            )?;
             let (x, below) = (LEFT - 90, y + 50);
             writeln!(
                 out,
-                "<text x='{x}' y='{below}' text-anchor='end'>{percent}%</text>"
+                "<line class='{class}' x1='{LEFT}' y1='{y}' x2='{right}' y2='{y}'/>\n\
+                <text x='{x}' y='{below}' text-anchor='end'>{percent}%</text>"
             )?;
         }
     }
@@ -132,15 +129,11 @@ fn draw_capacities<W: Write>(out: &mut W, scales: Scales) -> io::Result<()> {
         let capacity = scales.step.saturating_mul(tick);
         if capacity <= scales.capacity {
             let x = scales.across(capacity);
-            let number = Grouped(capacity);
+            let (number, below) = (Grouped(capacity), bottom + 160);
             writeln!(
                 out,
-                "<line class='axis' x1='{x}' y1='{top}' x2='{x}' y2='{bottom}'/>"
-            )?;
-            let below = bottom + 160;
-            writeln!(
-                out,
-                "<text x='{x}' y='{below}' text-anchor='middle'>{number}</text>"
+                "<line class='axis' x1='{x}' y1='{top}' x2='{x}' y2='{bottom}'/>\n\
+                <text x='{x}' y='{below}' text-anchor='middle'>{number}</text>"
             )?;
         }
     }
@@ -193,23 +186,14 @@ fn draw_dots<W: Write>(
     let class = class_of(policy);
     for row in rows {
         if let Some(ratio) = row.ratio(policy) {
-            draw_dot(
+            let (x, y) = (scales.across(row.capacity), scales.down(ratio.0));
+            writeln!(
                 out,
-                scales.across(row.capacity),
-                scales.down(ratio.0),
-                class,
+                "<circle class='dot {class}' cx='{x}' cy='{y}' r='38'/>"
             )?;
         }
     }
     Ok(())
-}
-
-/// Draws a dot at a place.
-fn draw_dot<W: Write>(out: &mut W, x: u64, y: u64, class: &str) -> io::Result<()> {
-    writeln!(
-        out,
-        "<circle class='dot {class}' cx='{x}' cy='{y}' r='38'/>"
-    )
 }
 
 /// Draws an entry of the legend, so far from the left.
@@ -217,12 +201,13 @@ fn draw_entry<W: Write>(out: &mut W, x: u64, policy: Policy) -> io::Result<()> {
     let class = class_of(policy);
     let name = policy.name();
     let (end, text) = (x.saturating_add(350), x.saturating_add(430));
+    let middle = x.saturating_add(175);
     writeln!(
         out,
-        "<polyline class='line {class}' points='{x},660 {end},660'/>"
-    )?;
-    draw_dot(out, x.saturating_add(175), 660, class)?;
-    writeln!(out, "<text x='{text}' y='710'>{name}</text>")
+        "<polyline class='line {class}' points='{x},660 {end},660'/>\n\
+        <circle class='dot {class}' cx='{middle}' cy='660' r='38'/>\n\
+        <text x='{text}' y='710'>{name}</text>"
+    )
 }
 
 /// The class of a policy's line.
@@ -241,17 +226,22 @@ fn class_of(policy: Policy) -> &'static str {
 /// A write that was refused.
 pub fn draw_chart<W: Write>(out: &mut W, title: &str, rows: &[Row]) -> io::Result<()> {
     let scales = Scales::new(rows);
-    let title = Escaped(title);
-    writeln!(
-        out,
-        "<svg xmlns='http://www.w3.org/2000/svg' viewBox='0 0 7600 4800' width='760' height='480' role='img'>"
-    )?;
-    writeln!(out, "<title>{title}</title>")?;
-    writeln!(out, "{STYLE}")?;
-    writeln!(out, "<rect class='paper' width='7600' height='4800'/>")?;
-    writeln!(out, "<text class='title' x='{LEFT}' y='380'>{title}</text>")?;
+    draw_head(out, title)?;
     draw_ratios(out, scales)?;
     draw_capacities(out, scales)?;
     draw_lines(out, scales, rows)?;
     writeln!(out, "</svg>")
+}
+
+/// Draws the paper with its title.
+fn draw_head<W: Write>(out: &mut W, title: &str) -> io::Result<()> {
+    let title = Escaped(title);
+    writeln!(
+        out,
+        "<svg xmlns='http://www.w3.org/2000/svg' viewBox='0 0 7600 4800' width='760' height='480' role='img'>\n\
+        <title>{title}</title>\n\
+        {STYLE}\n\
+        <rect class='paper' width='7600' height='4800'/>\n\
+        <text class='title' x='{LEFT}' y='380'>{title}</text>"
+    )
 }

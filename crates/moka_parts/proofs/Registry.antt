@@ -1,7 +1,7 @@
 -- What the registry's loops and searches find.
-use Rattle.std.proofs.Common.{◌≡◌, refl, ℕ, ◌<◌, Bool, true, false, List, [], ◌∷◌, ◌++◌, length, Result, Ok, Err, ap, sym, inl, inr, suc, zero, MatchBool, arith, true≢false, get_or, subst, Option, Some, None, MatchOption, IsTrue, ◌↔◌}
+use Rattle.std.proofs.Common.{◌≡◌, refl, ℕ, ◌<◌, ◌≤◌, Bool, true, false, List, [], ◌∷◌, ◌++◌, length, Result, Ok, Err, ap, sym, inl, inr, suc, zero, MatchBool, arith, true≢false, get_or, subst, Option, Some, None, MatchOption, is_some, IsTrue, ◌↔◌}
 use Rattle.std.specs.List.{AllByRecursion, AllWithin, HoldsAt, All}
-use Rattle.std.proofs.lemmas.List.Elements.{All-from_all_within, All-head, All-tail, All-contains, Contains-get_or}
+use Rattle.std.proofs.lemmas.List.Elements.{All-from_all_within, AllWithin-upto, All-head, All-tail, All-contains, Contains-get_or}
 use Rattle.uuid.specs.declared.Uuid.{Uuid}
 use Rattle.moka_parts.proofs.Types.{Instant, Record, Registered, PredicateError, PredicateRefused, State}
 use Rattle.moka_parts.specs.declared.error.PredicateError.TheVariants as predicate_error
@@ -21,28 +21,25 @@ module _ {K V P : Type 0} (says : P → K → V → Bool → Type 0) (r : Record
   none_covers [] all = tt
   none_covers (p ∷ ps) all = (All-head (λ p. Covers says p r → ⊥) p ps all, none_covers ps (All-tail (λ p. Covers says p r → ⊥) p ps all))
 
-  -- a search of the registry by whether a predicate covers the record
-  pub covers_by_search : (ps : List (Registered P)) (found : Bool) → MatchBool found ((k : ℕ) × (k < length ps) × HoldsAt (λ p. Covers says p r) ps k) (AllWithin (λ p. Covers says p r → ⊥) ps 0 (length ps)) → MatchBool found (SomeCovers says ps r) (NoneCovers says ps r)
-  covers_by_search ps true h = some_covers ps h.0 h.1 h.2
-  covers_by_search ps false h = none_covers ps (All-from_all_within (λ p. Covers says p r → ⊥) ps h)
+  -- a loop over the registry that none of the first predicates stopped
+  pub none_by_loop : (ps : List (Registered P)) (k : ℕ) → length ps ≤ k → AllWithin (λ p. Covers says p r → ⊥) ps 0 k → NoneCovers says ps r
+  none_by_loop ps k all none = none_covers ps (All-from_all_within (λ p. Covers says p r → ⊥) ps (AllWithin-upto (λ p. Covers says p r → ⊥) ps 0 k (length ps) all none))
 
-  first_covers : (ps : List (Registered P)) (p : Registered P) (k : ℕ) → Covers says p r → k < length ps → HoldsAt (λ y. y ≡ p) ps k → AllWithin (λ y. Covers says y r → ⊥) ps 0 k → FirstCovers says ps r p.id
-  first_covers [] p k covers below same none = absurd (omega arith)
-  first_covers (q ∷ ps) p zero covers below same none = inl (subst (λ y. Covers says y r) (sym (same q)) covers, ap (λ y. y.id) (sym (same q)))
-  first_covers (q ∷ ps) p (suc k) covers below same none = inr (none 0 q (omega arith) (omega arith), first_covers ps p k covers (omega arith) same (λ i d from to. none (suc i) d (omega arith) (omega arith)))
+  -- and one that stopped at a predicate
+  pub first_by_loop : (ps : List (Registered P)) (p : Registered P) (k : ℕ) → k < length ps → p ≡ get_or ps k p → Covers says p r → AllWithin (λ y. Covers says y r → ⊥) ps 0 k → FirstCovers says ps r p.id
+  first_by_loop [] p k below same covers none = absurd (omega arith)
+  first_by_loop (q ∷ ps) p zero below same covers none = inl (subst (λ y. Covers says y r) same covers, ap (λ y. y.id) same)
+  first_by_loop (q ∷ ps) p (suc k) below same covers none = inr (none 0 q (omega arith) (omega arith), first_by_loop ps p k (omega arith) same covers (λ i d from to. none (suc i) d (omega arith) (omega arith)))
 
-  -- a search of the registry for the first predicate that covers the record
-  module _ {A : Type 0} (v : A → Registered P) (ps : List (Registered P)) where
-    abbrev pub IsSearched : Option A → Type 0
-    IsSearched found = MatchOption found (AllWithin (λ p. Covers says p r → ⊥) ps 0 (length ps)) (λ x. Covers says (v x) r × (k : ℕ) × (k < length ps) × HoldsAt (λ y. y ≡ v x) ps k × AllWithin (λ p. Covers says p r → ⊥) ps 0 k)
+  some_by_first : (ps : List (Registered P)) (id : Uuid) → FirstCovers says ps r id → SomeCovers says ps r
+  some_by_first [] id first = first
+  some_by_first (p ∷ ps) id (inl covers) = inl covers.0
+  some_by_first (p ∷ ps) id (inr later) = inr (some_by_first ps id later.1)
 
-    pub none_by_search : (found : Option A) → IsSearched found → found ≡ None → NoneCovers says ps r
-    none_by_search found searched none = none_covers ps (All-from_all_within (λ p. Covers says p r → ⊥) ps (subst IsSearched none searched))
-
-    pub first_by_search : (found : Option A) → IsSearched found → (x : A) → found ≡ Some x → FirstCovers says ps r (v x).id
-    first_by_search found searched x some =
-        let (covers, k, below, same, earlier) = subst IsSearched some searched in
-        first_covers ps (v x) k covers below same earlier
+  -- whether a predicate covers the record, by the first one that does
+  pub covers_by_first : (ps : List (Registered P)) (found : Option Uuid) → MatchOption found (NoneCovers says ps r) (FirstCovers says ps r) → MatchBool (is_some found) (SomeCovers says ps r) (NoneCovers says ps r)
+  covers_by_first ps None none = none
+  covers_by_first ps (Some id) first = some_by_first ps id first
 
 -- ---- identifiers
 

@@ -60,7 +60,7 @@ pub struct KvEntry<K, V> {
 }
 
 /// One call, with its arguments. Moments are in nanoseconds.
-#[derive(Debug, Drop)]
+#[derive(Drop)]
 pub enum Call<K, V, P> {
     /// Puts a value under a key; the operation waits under a ticket.
     Insert {
@@ -147,8 +147,33 @@ pub enum Call<K, V, P> {
     },
 }
 
+/// Prints which call it is. Its arguments are left out, so that keys and values need no `Debug`.
+impl<K, V, P> fmt::Debug for Call<K, V, P> {
+    fn fmt<W: fmt::Write>(&self, f: &mut fmt::Formatter<W>) -> fmt::Result {
+        f.write_str(match self {
+            Call::Insert { .. } => "Insert",
+            Call::Send { .. } => "Send",
+            Call::Get { .. } => "Get",
+            Call::GetUnrecorded { .. } => "GetUnrecorded",
+            Call::Contains { .. } => "Contains",
+            Call::Key { .. } => "Key",
+            Call::Scan { .. } => "Scan",
+            Call::Remove { .. } => "Remove",
+            Call::InvalidateAll { .. } => "InvalidateAll",
+            Call::InvalidateIf { .. } => "InvalidateIf",
+            Call::Run { .. } => "Run",
+            Call::RunIfDue { .. } => "RunIfDue",
+            Call::DisableAutoRun => "DisableAutoRun",
+            Call::Keys { .. } => "Keys",
+            Call::Report => "Report",
+            Call::Pending => "Pending",
+            Call::SetCapacity { .. } => "SetCapacity",
+        })
+    }
+}
+
 /// The answer of the call with the same name.
-#[derive(Debug, Drop)]
+#[derive(Drop)]
 pub enum Reply<K, V, P> {
     /// The ticket of the operation, and the moment at which the value was written, in nanoseconds.
     Insert(Result<(Ticket, Instant), InsertRefused<K, V>>),
@@ -212,8 +237,34 @@ pub enum Reply<K, V, P> {
     SetCapacity(Result<(), CapacityError>),
 }
 
+/// Prints the name of the answered call. What it answered is left out, so that keys and values need no `Debug`.
+impl<K, V, P> fmt::Debug for Reply<K, V, P> {
+    fn fmt<W: fmt::Write>(&self, f: &mut fmt::Formatter<W>) -> fmt::Result {
+        f.write_str(match self {
+            Reply::Insert(_) => "Insert",
+            Reply::Disabled { .. } => "Disabled",
+            Reply::Send(_) => "Send",
+            Reply::Get(_) => "Get",
+            Reply::GetUnrecorded(_) => "GetUnrecorded",
+            Reply::Contains(_) => "Contains",
+            Reply::Key(_) => "Key",
+            Reply::Scan(_) => "Scan",
+            Reply::Remove { .. } => "Remove",
+            Reply::InvalidateAll => "InvalidateAll",
+            Reply::InvalidateIf(_) => "InvalidateIf",
+            Reply::Run(_) => "Run",
+            Reply::RunIfDue => "RunIfDue",
+            Reply::DisableAutoRun => "DisableAutoRun",
+            Reply::Keys(_) => "Keys",
+            Reply::Report { .. } => "Report",
+            Reply::Pending { .. } => "Pending",
+            Reply::SetCapacity(_) => "SetCapacity",
+        })
+    }
+}
+
 /// The calls come back if there is no room for their replies. None was made.
-#[derive(Debug, Drop)]
+#[derive(Drop)]
 pub struct DriveRefused<K, V, P> {
     /// Why they were refused.
     pub error: OutOfMemory,
@@ -232,5 +283,14 @@ impl<K, V, P> fmt::Display for DriveRefused<K, V, P> {
     }
 }
 
-impl<K: fmt::Debug + Drop, V: fmt::Debug + Drop, P: fmt::Debug + Drop> Error
-    for DriveRefused<K, V, P> {}
+/// Prints why they were refused, and how many calls came back.
+impl<K, V, P> fmt::Debug for DriveRefused<K, V, P> {
+    fn fmt<W: fmt::Write>(&self, f: &mut fmt::Formatter<W>) -> fmt::Result {
+        f.debug_struct("DriveRefused")
+            .field("error", &self.error)
+            .field("calls", &self.calls.len())
+            .finish()
+    }
+}
+
+impl<K: Drop, V: Drop, P: Drop> Error for DriveRefused<K, V, P> {}

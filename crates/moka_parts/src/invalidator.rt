@@ -148,9 +148,7 @@ impl<P> Invalidator<P> {
             (SomeCovers P.says self.now entry.now)
             (NoneCovers P.says self.now entry.now) }
     {
-        self.predicates
-            .iter()
-            .any(|registered| registered.covers(entry))
+        self.first_covering(entry).is_some()
     }
 
     /// The identifier of the first predicate that covers the record, if one does.
@@ -161,11 +159,12 @@ impl<P> Invalidator<P> {
             (NoneCovers P.says self.now entry.now)
             (FirstCovers P.says self.now entry.now) }
     {
-        let found = self
-            .predicates
-            .iter()
-            .find(|registered| registered.covers(entry))?;
-        Some(found.id)
+        for registered in &self.predicates {
+            if registered.covers(entry) {
+                return Some(registered.id);
+            }
+        }
+        None
     }
 
     /// Whether the predicate at this place covers the record.

@@ -158,10 +158,10 @@ impl fmt::Debug for EvictionPolicy {
     ghost debug_output = { λ policy. Some (policy_text policy) };
 
     fn fmt<W: fmt::Write>(&self, f: &mut fmt::Formatter<W>) -> fmt::Result {
-        match self {
-            EvictionPolicy::TinyLfu => write!(f, "EvictionPolicy::TinyLfu"),
-            EvictionPolicy::Lru => write!(f, "EvictionPolicy::Lru"),
-        }
+        f.write_str(match self {
+            EvictionPolicy::TinyLfu => "EvictionPolicy::TinyLfu",
+            EvictionPolicy::Lru => "EvictionPolicy::Lru",
+        })
     }
 }
 

@@ -135,12 +135,10 @@ resize_of (capacity ∷ []) = do
   Some (SetCapacity c)
 resize_of _ = None
 
--- the call of that name; `keys` asks for those of the one segment
-abbrev pub call_of : List ℕ → List (List ℕ) → Option CallText
-call_of name arguments =
-    if bytes_eq name (codes "insert") then insert_of arguments
-    else (if bytes_eq name (codes "run") then run_of arguments
-    else (if bytes_eq name (codes "send") then send_of arguments
+-- the call of that name, but for `insert` and `run`; `keys` asks for the keys of the one segment
+abbrev pub other_call_of : List ℕ → List (List ℕ) → Option CallText
+other_call_of name arguments =
+    if bytes_eq name (codes "send") then send_of arguments
     else (if bytes_eq name (codes "get") then get_of arguments
     else (if bytes_eq name (codes "peek") then peek_of arguments
     else (if bytes_eq name (codes "scan") then scan_of arguments
@@ -154,4 +152,10 @@ call_of name arguments =
     else (if bytes_eq name (codes "keys") then alone (Keys 0) arguments
     else (if bytes_eq name (codes "report") then alone Report arguments
     else (if bytes_eq name (codes "pending") then alone Pending arguments
-    else None)))))))))))))))
+    else None)))))))))))))
+
+-- the call of that name
+abbrev pub call_of : List ℕ → List (List ℕ) → Option CallText
+call_of name arguments =
+    if bytes_eq name (codes "insert") then insert_of arguments
+    else (if bytes_eq name (codes "run") then run_of arguments else other_call_of name arguments)

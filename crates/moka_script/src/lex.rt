@@ -1,5 +1,5 @@
 //! The words and the numbers of a line.
-ghost use Rattle.std.specs.Prelude.{◌≡◌, ◌≤◌, take};
+ghost use Rattle.std.specs.Prelude.{◌≡◌, ◌≤◌, ◌==◌, length, not, take};
 ghost use Rattle.std.specs.List.{list_all};
 ghost use Rattle.std.specs.Char.{is_ascii_digit};
 ghost use Rattle.moka_script.specs.Lex.{texts, alone, lone_number, words_of, number_of, number_or_none, is_numeral, is_printable};
@@ -59,8 +59,15 @@ pub fn number_or_none(word: &str) -> Option<Option<u64>>
 {
     match word {
         "none" => Some(None),
-        _ => number(word).map(Some),
+        _ => Some(Some(number(word)?)),
     }
+}
+
+/// Tells whether something stands between two spaces.
+pub fn is_word(word: &&str) -> bool
+    ensures { result ≡ not (length word.now.now == 0) }
+{
+    !word.is_empty()
 }
 
 /// What stands between the spaces of a text: its first words, and how many of these there are.
@@ -70,7 +77,7 @@ pub fn first_words(text: &str) -> ([&str; MOST_WORDS], usize)
 {
     let mut words = [""; MOST_WORDS];
     let mut count = 0;
-    let all = text.split(' ').filter(|word| !word.is_empty());
+    let all = text.split(' ').filter(is_word);
     for word in all.take(MOST_WORDS) {
         words[count] = word;
         count += 1;

@@ -12,6 +12,10 @@ pub nothing_each : {A : Type 0} (R : A → A → Type 0) (xs : List A) → lengt
 nothing_each R [] none = tt
 nothing_each R (x ∷ xs) none = absurd (omega arith)
 
+-- the first made a step, and then the others
+pub first_each : {A : Type 0} (R : A → A → Type 0) (xs later ys : List A) (x y : A) → IsFirstAndRest xs x later → R x y → AllZip R later ys → AllZip R xs (y ∷ ys)
+first_each R xs later ys x y split one others = subst (λ zs. AllZip R zs (y ∷ ys)) (sym split.0) (one, others)
+
 module _ {K V S X L P W C : Type 0} (m : Meaning K V X L P W C (Unit {0})) (now : Instant) where
   -- no segment ran
   pub nothing_ran : (clock : C) (xs : List (Synchronous K V S X L P W)) → length xs ≡ 0 → AllRan m now clock false clock xs xs

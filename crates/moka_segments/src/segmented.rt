@@ -167,8 +167,7 @@ impl<
         ensures back { IfErr result (λ refused. (refused.key ≡ key) × (refused.value ≡ value)) }
     {
         let index = self.router.segment_of(&key);
-        let segment = &mut self.segments[index];
-        segment.insert(key, value, now, clock)
+        self.segments[index].insert(key, value, now, clock)
     }
 
     /// A clone of a key's value, if the key is there and visible at the moment `now`. The read is queued.
@@ -193,8 +192,7 @@ impl<
             self.old self.new }
     {
         let index = self.router.segment_of(key);
-        let segment = &mut self.segments[index];
-        segment.get(key, now, clock)
+        self.segments[index].get(key, now, clock)
     }
 
     /// Takes a key out, and hands its value out, expired or not. The listener, if one is set, is notified.
@@ -220,8 +218,7 @@ impl<
             self.old self.new }
     {
         let index = self.router.segment_of(key);
-        let segment = &mut self.segments[index];
-        segment.remove(key, now, clock)
+        self.segments[index].remove(key, now, clock)
     }
 
     /// As `remove`, without the value.
@@ -246,8 +243,7 @@ impl<
             self.old self.new }
     {
         let index = self.router.segment_of(key);
-        let segment = &mut self.segments[index];
-        segment.invalidate(key, now, clock)
+        self.segments[index].invalidate(key, now, clock)
     }
 
     /// A clone of a key's value, if the key is there and visible at the moment `now`, and else the value that `init`

@@ -1,6 +1,6 @@
 -- Each record and each member has a row, and rows have narrow places.
-use Rattle.std.proofs.Common.{◌≡◌, ◌+◌, ◌<◌, ◌≤◌, ◌^◌, ℕ, ◌==◌, count_by, nat_le, Bool, true, false, cond, List, [], ◌∷◌, map, Option, Some, None, IfSome, IsSome, is_some, inl, inr, refl, sym, ap, ◌∙◌, Contains, arith}
-use Rattle.std.proofs.lemmas.Bool.{cases_Bool, cond-false, leb-true}
+use Rattle.std.proofs.Common.{◌≡◌, ◌+◌, ◌-◌, min, ◌<◌, ◌≤◌, ◌^◌, ℕ, ◌==◌, count_by, nat_le, Bool, true, false, cond, List, [], ◌∷◌, map, Option, Some, None, IfSome, IsSome, is_some, inl, inr, refl, sym, ap, ◌∙◌, Contains, arith}
+use Rattle.std.proofs.lemmas.Bool.{cases_Bool, cond-true, cond-false, leb-true, le-leb}
 use Rattle.std.proofs.lemmas.List.Elements.{Contains-append_right}
 use Rattle.std.specs.FinMap.{get}
 use Rattle.moka_store.specs.RecordTable.{Row, row_at, stored_at, records_of, places_of}
@@ -59,3 +59,15 @@ room-narrow rows room some = elim (cases_Bool (nat_le (count_by is_some rows + r
   | inl fits ↦ leb-true _ _ fits
   | inr past ↦ (let none : row_room rows room ≡ 0 = cond-false (nat_le (count_by is_some rows + room) (2 ^ 32)) room 0 past in absurd (omega arith))
 ]
+
+less-each : (a b most n : ℕ) → 0 < min (a + 1) (min (b + 1) (most - n)) → min (a + 1) (min (b + 1) (most - n)) ≡ min a (min b (most - (n + 1))) + 1
+less-each a b most n some = omega arith
+
+-- a new row takes one place of each part
+pub room-less : {R : Type 0} (rows rows' : List (Option (Row R))) (spare spare' room room' most : ℕ) → 0 < min spare (min (row_room rows room) (most - count_by is_some rows)) → spare ≡ spare' + 1 → room ≡ room' + 1 → count_by is_some rows' ≡ count_by is_some rows + 1 → min spare (min (row_room rows room) (most - count_by is_some rows)) ≡ min spare' (min (row_room rows' room') (most - count_by is_some rows')) + 1
+room-less rows rows' spare spare' room room' most some spared roomed longer =
+    let fits = le-leb (count_by is_some rows + room) (2 ^ 32) (room-narrow rows room (omega (arith, some))) in
+    let all : count_by is_some rows' + room' ≡ count_by is_some rows + room = omega (arith, roomed, longer) in
+    let before : row_room rows room ≡ room' + 1 = cond-true (nat_le (count_by is_some rows + room) (2 ^ 32)) room 0 fits ∙ roomed in
+    let after : row_room rows' room' ≡ room' = cond-true (nat_le (count_by is_some rows' + room') (2 ^ 32)) room' 0 (ap (λ n. nat_le n (2 ^ 32)) all ∙ fits) in
+    rw (spared, before, after, longer) (less-each spare' room' most (count_by is_some rows) (rw (spared, before) at some))

@@ -1,2 +1,1 @@
-pub mod PlainSketch
 pub mod WheelTable

@@ -1,9 +1,14 @@
 //! Tests of `moka_engine`.
-use moka_engine::{Engine, Expiry, Instant, Listener, NoPredicate, Weigher};
+use moka_engine::{Engine, Expiry, Instant, Listener, PredicateFn, Weigher};
+use std::hash::Hash;
 use std::test::Fail;
 
 mod base_cache;
 mod config;
+mod drops;
+mod expiry;
+mod keys;
+mod sizes;
 
 /// What an entry weighs is its key.
 #[derive(Drop)]
@@ -23,15 +28,24 @@ impl<V> Weigher<u64, V> for ByKey {
 }
 
 /// Inserts an entry, sends its operation, and gives the number of the operation's ticket.
-fn settle<V: Drop, X: Expiry<u64, V>, L: Listener<u64, V>, W: Weigher<u64, V>>(
-    cache: &mut Engine<u64, V, X, L, NoPredicate, W>,
-    key: u64,
+fn settle<
+    K: Eq + Hash + Drop,
+    V: Drop,
+    X: Expiry<K, V>,
+    L: Listener<K, V>,
+    P: PredicateFn<K, V>,
+    W: Weigher<K, V>,
+>(
+    cache: &mut Engine<K, V, X, L, P, W>,
+    key: K,
+    hash: u64,
     value: V,
+    now: Instant,
 ) -> Result<u64, Fail> {
     if cache.is_map_disabled() {
         return Err("disabled".into());
     }
-    let Ok((ticket, _)) = cache.do_insert_with_hash(key, key, value, Instant(0)) else {
+    let Ok((ticket, _)) = cache.do_insert_with_hash(key, hash, value, now) else {
         return Err("refused".into());
     };
     match cache.send(ticket) {

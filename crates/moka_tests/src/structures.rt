@@ -1,4 +1,4 @@
 //! Tests of `moka_structures`.
+mod compare;
 mod order_list;
 mod outstanding;
-mod plain_order;

@@ -1,15 +1,16 @@
-//! Entry calls, each made for a text that is not there and then for one that is.
-use crate::report::{Told, tell_refused, text};
-use crate::synchronous::{Cached, Removal, insert_made, take_out, told_by};
-use anyhow::Result;
-use moka_drive::{CacheEntry, CompResult, ComputeRefused, GetWithRefused, Op};
-use moka_engine::{FixedClock, Instant, OutOfMemory};
-use std::alloc::{AllocError, Global};
-use std::io::Write;
+//! Calls that hand out the value of a key or put one, and calls that compute one.
+use crate::notes::Notes;
+use crate::report::{Round, Told, looked_up};
+use crate::synchronous::{Cached, Removal, is_put_back, is_taken_out, run, told_by};
+use moka_drive::{CacheEntry, CompResult, ComputeRefused, GetWithRefused, Op, Stats};
+use moka_engine::{FixedClock, InsertRefused, Instant};
 
-/// A call that puts a text and hands its entry out.
-#[derive(Clone, Copy, PartialEq, Eq)]
-enum Entry {
+/// A call that hands out the value of a key, and puts one if the key is not there.
+#[derive(Clone, Copy)]
+enum Call {
+    GetWith,
+    OptionallyGetWith,
+    TryGetWith,
     OrInsert,
     OrInsertWith,
     OrOptionallyInsertWith,
@@ -17,196 +18,195 @@ enum Entry {
     AndUpsertWith,
 }
 
-const ENTRIES: [Entry; 5] = [
-    Entry::OrInsert,
-    Entry::OrInsertWith,
-    Entry::OrOptionallyInsertWith,
-    Entry::OrTryInsertWith,
-    Entry::AndUpsertWith,
+/// All these calls, with their names, and whether the value that is put is counted as a load.
+const CALLS: [(Call, &str, bool); 8] = [
+    (Call::GetWith, "Cache::get_with", true),
+    (Call::OptionallyGetWith, "Cache::optionally_get_with", true),
+    (Call::TryGetWith, "Cache::try_get_with", true),
+    (Call::OrInsert, "OwnedKeyEntrySelector::or_insert", false),
+    (
+        Call::OrInsertWith,
+        "OwnedKeyEntrySelector::or_insert_with",
+        true,
+    ),
+    (
+        Call::OrOptionallyInsertWith,
+        "OwnedKeyEntrySelector::or_optionally_insert_with",
+        true,
+    ),
+    (
+        Call::OrTryInsertWith,
+        "OwnedKeyEntrySelector::or_try_insert_with",
+        true,
+    ),
+    (
+        Call::AndUpsertWith,
+        "OwnedKeyEntrySelector::and_upsert_with",
+        false,
+    ),
 ];
 
-impl Entry {
-    fn at_look_up(self) -> &'static str {
-        match self {
-            Entry::OrInsert => "OwnedKeyEntrySelector::or_insert at the look-up",
-            Entry::OrInsertWith => "OwnedKeyEntrySelector::or_insert_with at the look-up",
-            Entry::OrOptionallyInsertWith =>
-                "OwnedKeyEntrySelector::or_optionally_insert_with at the look-up",
-            Entry::OrTryInsertWith => "OwnedKeyEntrySelector::or_try_insert_with at the look-up",
-            Entry::AndUpsertWith => "OwnedKeyEntrySelector::and_upsert_with at the look-up",
-        }
-    }
-
-    fn at_insert(self) -> &'static str {
-        match self {
-            Entry::OrInsert => "OwnedKeyEntrySelector::or_insert at the insert",
-            Entry::OrInsertWith => "OwnedKeyEntrySelector::or_insert_with at the insert",
-            Entry::OrOptionallyInsertWith =>
-                "OwnedKeyEntrySelector::or_optionally_insert_with at the insert",
-            Entry::OrTryInsertWith => "OwnedKeyEntrySelector::or_try_insert_with at the insert",
-            Entry::AndUpsertWith => "OwnedKeyEntrySelector::and_upsert_with at the insert",
-        }
-    }
-
-    /// Whether its value is counted as a load if its key is not there.
-    fn is_load(self) -> bool {
-        self != Entry::OrInsert && self != Entry::AndUpsertWith
-    }
-
-    /// Whether it puts its value also if its key is there.
-    fn replaces(self) -> bool {
-        self == Entry::AndUpsertWith
-    }
-}
-
-/// An entry call with texts of this number, and with which word its value begins.
-#[derive(Clone, Copy)]
-struct Asked {
-    entry: Entry,
-    number: u64,
-    word: &'static str,
-}
-
-/// Whether a key is there, and the value that an entry call is to hand out.
+/// A call with a key of this number, whether that is there, and which value is to be handed out.
 #[derive(Drop)]
-struct Expected {
+struct Asked {
+    call: Call,
+    number: u64,
     is_there: bool,
-    value: String,
+    expected: String,
 }
 
-type Answer = Result<Option<CacheEntry<String, String>>, GetWithRefused<String, String>>;
+type Refused = GetWithRefused<String, String>;
 
 impl Asked {
-    fn key(self, alloc: Global) -> Result<String, AllocError> {
-        text(alloc, "entry", self.number)
-    }
-
-    fn made(self, alloc: Global) -> Result<String, AllocError> {
-        text(alloc, self.word, self.number)
-    }
-
-    /// The text that is put, or the one that was made before.
-    fn expected(self, alloc: Global, cache: &Cached, key: &String) -> Result<Expected, AllocError> {
-        let is_there = cache.contains_key(key, Instant(self.number));
-        let is_kept = is_there && !self.entry.replaces();
-        let word = if is_kept { "made" } else { self.word };
-        let value = text(alloc, word, self.number)?;
-        Ok(Expected { is_there, value })
-    }
-
-    /// The entry.
-    fn ask(self, cache: &mut Cached, key: String, made: String) -> Answer {
-        match self.entry {
-            Entry::OrInsert => self.insert(cache, key, made),
-            Entry::AndUpsertWith => {
-                let (now, clock) = (Instant(self.number), &mut FixedClock(Instant(self.number)));
-                Ok(Some(cache.entry(key).and_upsert_with(|_| made, now, clock)?))
-            }
-            _ => self.make(cache, key, made),
-        }
-    }
-
-    /// The entry, by `or_insert`. If that is refused and the key is there, it was so at the look-up.
-    fn insert(self, cache: &mut Cached, key: String, made: String) -> Answer {
+    /// Whether the call hands out the value that is expected.
+    fn is_right(&self, cache: &mut Cached, key: String, made: String) -> Result<bool, Refused> {
         let (now, clock) = (Instant(self.number), &mut FixedClock(Instant(self.number)));
-        let is_there = cache.contains_key(&key, now);
-        match cache.entry(key).or_insert(made, now, clock) {
-            Ok(entry) => Ok(Some(entry)),
-            Err(refused) if is_there => Err(GetWithRefused::Lookup(refused.key)),
-            Err(refused) => Err(GetWithRefused::Insert(refused)),
+        match self.call {
+            Call::GetWith => Ok(self.is(Some(cache.get_with(key, || made, now, clock)?))),
+            Call::OptionallyGetWith => {
+                Ok(self.is(cache.optionally_get_with(key, || Some(made), now, clock)?))
+            }
+            Call::TryGetWith => {
+                let found = cache.try_get_with(key, || Ok::<String, u64>(made), now, clock)?;
+                Ok(self.is(found.ok()))
+            }
+            _ => self.is_entry_right(cache, key, made),
         }
     }
 
-    /// The entry, by a call that makes its value.
-    fn make(self, cache: &mut Cached, key: String, made: String) -> Answer {
+    /// Whether the entry call hands out the entry that is expected.
+    fn is_entry_right(
+        &self,
+        cache: &mut Cached,
+        key: String,
+        made: String,
+    ) -> Result<bool, Refused> {
         let (now, clock) = (Instant(self.number), &mut FixedClock(Instant(self.number)));
         let selected = cache.entry(key);
-        match self.entry {
-            Entry::OrOptionallyInsertWith => {
-                selected.or_optionally_insert_with(|| Some(made), now, clock)
+        match self.call {
+            Call::OrInsert => match selected.or_insert(made, now, clock) {
+                Ok(entry) => Ok(self.is_entry(Some(entry))),
+                Err(refused) => Err(self.refusal_of(refused)),
+            },
+            Call::OrOptionallyInsertWith => {
+                Ok(self.is_entry(selected.or_optionally_insert_with(|| Some(made), now, clock)?))
             }
-            Entry::OrTryInsertWith => {
-                let init = || Ok::<String, OutOfMemory>(made);
-                Ok(selected.or_try_insert_with(init, now, clock)?.ok())
+            Call::OrTryInsertWith => {
+                let init = || Ok::<String, u64>(made);
+                let found = selected.or_try_insert_with(init, now, clock)?;
+                Ok(self.is_entry(found.ok()))
             }
-            _ => Ok(Some(selected.or_insert_with(|| made, now, clock)?)),
+            Call::AndUpsertWith => {
+                let entry = selected.and_upsert_with(|_| made, now, clock)?;
+                Ok(
+                    entry.is_fresh
+                        && entry.is_old_value_replaced == self.is_there
+                        && self.is(Some(entry.value)),
+                )
+            }
+            _ => Ok(self.is_entry(Some(selected.or_insert_with(|| made, now, clock)?))),
         }
     }
 
-    /// Whether the entry is the one that is expected.
-    fn is_right(self, found: Option<CacheEntry<String, String>>, expected: &Expected) -> bool {
-        let Some(found) = found else {
-            return false;
-        };
-        let is_replaced = expected.is_there && self.entry.replaces();
-        found.value == expected.value
-            && found.is_fresh == (!expected.is_there || is_replaced)
-            && found.is_old_value_replaced == is_replaced
-    }
-
-    /// The call that was refused, and what the cache is to tell then.
-    fn told(
-        self,
-        refused: &GetWithRefused<String, String>,
-        before: Told,
-        is_there: bool,
-    ) -> (&'static str, Told) {
-        if let GetWithRefused::Lookup(_) = refused {
-            return (self.entry.at_look_up(), before);
-        }
-        let looked_up = before.after_look_ups(u64::from(is_there), u64::from(!is_there));
-        let after = if self.entry.is_load() {
-            looked_up.after_load()
+    /// Where `or_insert` was refused: at the look-up if the key is there.
+    fn refusal_of(&self, refused: InsertRefused<String, String>) -> Refused {
+        if self.is_there {
+            GetWithRefused::Lookup(refused.key)
         } else {
-            looked_up
-        };
-        (self.entry.at_insert(), after)
+            GetWithRefused::Insert(refused)
+        }
     }
 
-    /// Whether the text is the one that is expected once the call is made again with what came back of it.
-    fn is_right_again(
-        self,
-        alloc: Global,
-        cache: &mut Cached,
-        refused: GetWithRefused<String, String>,
-        expected: Expected,
-    ) -> Result<bool> {
-        match refused {
-            GetWithRefused::Lookup(key) => {
-                let found = self.ask(cache, key, self.made(alloc)?)?;
-                Ok(self.is_right(found, &expected))
+    fn is(&self, found: Option<String>) -> bool {
+        match found {
+            Some(value) => value == self.expected,
+            None => false,
+        }
+    }
+
+    /// Whether the entry has the value that is expected, and says whether it was there.
+    fn is_entry(&self, found: Option<CacheEntry<String, String>>) -> bool {
+        match found {
+            Some(entry) => {
+                entry.is_fresh != self.is_there
+                    && !entry.is_old_value_replaced
+                    && entry.value == self.expected
             }
-            GetWithRefused::Insert(refused) => {
-                let value = insert_made(cache, refused, Instant(self.number))?;
-                Ok(value == Some(expected.value))
-            }
+            None => false,
         }
     }
 }
 
-/// Whether an entry call hands out what it should. One that is refused is made again.
-fn is_asked<W: Write>(
-    alloc: Global,
-    out: &mut W,
+/// Whether a call hands out what it should. One that is refused at the look-up is made again with the key that came
+/// back, and an insert with key and value. The value that it is to put begins with this word.
+fn is_asked(
+    notes: &mut Notes,
     cache: &mut Cached,
-    asked: Asked,
-) -> Result<bool> {
-    let key = asked.key(alloc)?;
-    let expected = asked.expected(alloc, cache, &key)?;
-    let made = asked.made(alloc)?;
+    (call, name, is_load): (Call, &'static str, bool),
+    word: &str,
+    number: u64,
+) -> bool {
+    let key = notes.text("entry", number);
+    let is_there = cache.contains_key(&key, Instant(number));
+    let is_kept = is_there && !matches!(call, Call::AndUpsertWith);
+    let expected = notes.text(if is_kept { "made" } else { word }, number);
+    let made = notes.text(word, number);
+    let asked = Asked {
+        call,
+        number,
+        is_there,
+        expected,
+    };
     let before = told_by(cache);
-    match asked.ask(cache, key, made) {
-        Ok(found) => Ok(asked.is_right(found, &expected)),
-        Err(refused) => {
-            let (call, after) = asked.told(&refused, before, expected.is_there);
-            tell_refused(out, call, &after, &told_by(cache))?;
-            asked.is_right_again(alloc, cache, refused, expected)
+    match asked.is_right(cache, key, made) {
+        Ok(is_right) => is_right,
+        Err(GetWithRefused::Lookup(key)) => {
+            notes.refused(name, " at the look-up", &before, &told_by(cache));
+            let made = notes.text(word, number);
+            matches!(asked.is_right(cache, key, made), Ok(true))
+        }
+        Err(GetWithRefused::Insert(refused)) => {
+            let loads = u64::from(is_load);
+            let counted = Stats {
+                loads,
+                ..looked_up(is_there)
+            };
+            notes.refused(
+                name,
+                " at the insert",
+                &before.after(counted),
+                &told_by(cache),
+            );
+            refused.value == asked.expected && is_put_back(cache, refused, Instant(number))
         }
     }
+}
+
+/// Whether all calls with texts of this number answer as they should, for a key that is not there and for one that is.
+fn are_asked(notes: &mut Notes, cache: &mut Cached, number: u64) -> bool {
+    let removal = (Removal::Invalidate, "Cache::invalidate");
+    let mut is_right = true;
+    for call in CALLS {
+        let is_made = is_asked(notes, cache, call, "made", number);
+        let is_found = is_asked(notes, cache, call, "other", number);
+        let is_taken_out = is_taken_out(notes, cache, removal, "entry", number);
+        is_right = is_right && is_made && is_found && is_taken_out;
+    }
+    is_right
+}
+
+/// Whether nothing is answered and nothing inserted where makers decline and fail.
+fn is_nothing_made(notes: &Notes, cache: &mut Cached, number: u64) -> bool {
+    let (now, clock) = (Instant(number), &mut FixedClock(Instant(number)));
+    let (first, second) = (notes.text("nothing", number), notes.text("nothing", number));
+    let asked = notes.text("nothing", number);
+    let declined = cache.optionally_get_with(first, || None, now, clock);
+    let failed = cache.try_get_with(second, || Err::<String, u64>(7), now, clock);
+    matches!(declined, Ok(None)) && matches!(failed, Ok(Err(7))) && !cache.contains_key(&asked, now)
 }
 
 /// What is computed of a text.
-#[derive(Clone, Copy, PartialEq, Eq)]
+#[derive(Clone, Copy)]
 enum Choice {
     Leave,
     Put,
@@ -214,155 +214,101 @@ enum Choice {
 }
 
 /// Each is computed in turn, of a text that is not there at first.
-const CHOICES: [Choice; 6] = [
-    Choice::Leave,
-    Choice::Put,
-    Choice::Put,
-    Choice::Leave,
-    Choice::Remove,
-    Choice::Remove,
+const CHOICES: [(Choice, bool); 6] = [
+    (Choice::Leave, false),
+    (Choice::Put, false),
+    (Choice::Put, true),
+    (Choice::Leave, true),
+    (Choice::Remove, true),
+    (Choice::Remove, false),
 ];
 
-fn compute(
+/// Whether what is chosen of a text that is there or not is done.
+fn is_done(
     cache: &mut Cached,
-    choice: Choice,
+    (choice, is_there): (Choice, bool),
     key: String,
     value: String,
     now: Instant,
-) -> Result<CompResult<String, String>, ComputeRefused<String, String>> {
+) -> Result<bool, ComputeRefused<String, String>> {
     let choose = |_: Option<&String>| match choice {
         Choice::Leave => Op::Nop,
         Choice::Put => Op::Put(value),
         Choice::Remove => Op::Remove,
     };
-    cache.compute_with(key, choose, now, &mut FixedClock(now))
-}
-
-/// Whether what was done is what was chosen.
-fn is_done(done: &CompResult<String, String>, choice: Choice, is_there: bool) -> bool {
-    match done {
-        CompResult::Inserted(_) => choice == Choice::Put && !is_there,
-        CompResult::ReplacedWith(_) => choice == Choice::Put && is_there,
-        CompResult::Removed(_) => choice == Choice::Remove && is_there,
-        CompResult::StillNone(_) => choice != Choice::Put && !is_there,
-        CompResult::Unchanged(_) => choice == Choice::Leave && is_there,
+    match cache.compute_with(key, choose, now, &mut FixedClock(now))? {
+        CompResult::Inserted(_) => Ok(matches!(choice, Choice::Put) && !is_there),
+        CompResult::ReplacedWith(_) => Ok(matches!(choice, Choice::Put) && is_there),
+        CompResult::Removed(_) => Ok(matches!(choice, Choice::Remove) && is_there),
+        CompResult::StillNone(_) => Ok(!matches!(choice, Choice::Put) && !is_there),
+        CompResult::Unchanged(_) => Ok(matches!(choice, Choice::Leave) && is_there),
     }
 }
 
-/// The call that was refused, and what the cache is to tell then.
-fn told_of(
+/// At which step a call was refused, and what the cache is to tell then.
+fn expected_after(
     refused: &ComputeRefused<String, String>,
     before: Told,
     is_there: bool,
 ) -> (&'static str, Told) {
-    let looked_up = before.after_look_ups(u64::from(is_there), u64::from(!is_there));
+    let after = before.after(looked_up(is_there));
     match refused {
-        ComputeRefused::Lookup(_) => ("Cache::compute_with at the look-up", before),
-        ComputeRefused::Insert(_) => ("Cache::compute_with at the insert", looked_up),
-        ComputeRefused::NotTold(_, _) => {
-            let after = looked_up.after_writes(1);
-            ("Cache::compute_with at the removal", after)
-        }
+        ComputeRefused::Lookup(_) => (" at the look-up", before),
+        ComputeRefused::Insert(_) => (" at the insert", after),
+        ComputeRefused::NotTold(_, _) => (" at the removal", after.after_writes(1)),
     }
 }
 
-/// What is computed of a text of this number, and whether that is there before.
-#[derive(Clone, Copy)]
-struct Chosen {
-    choice: Choice,
-    number: u64,
-    is_there: bool,
-}
-
-/// Whether what is computed is done once what was refused is done by hand, with what came back of it.
-fn is_done_by_hand(
-    alloc: Global,
+/// Whether what was refused is done by hand, with what came back of it.
+fn is_done_again(
+    notes: &Notes,
     cache: &mut Cached,
-    chosen: Chosen,
+    (choice, is_there): (Choice, bool),
     refused: ComputeRefused<String, String>,
-) -> Result<bool> {
-    let (choice, now) = (chosen.choice, Instant(chosen.number));
-    let clock = &mut FixedClock(now);
+    number: u64,
+) -> bool {
+    let (now, clock) = (Instant(number), &mut FixedClock(Instant(number)));
     match refused {
         ComputeRefused::Lookup(key) => {
-            let value = text(alloc, "value", chosen.number)?;
-            let done = compute(cache, choice, key, value, now)?;
-            Ok(is_done(&done, choice, chosen.is_there))
+            let value = notes.text("value", number);
+            matches!(
+                is_done(cache, (choice, is_there), key, value, now),
+                Ok(true)
+            )
         }
         ComputeRefused::Insert(refused) => {
-            cache.insert(refused.key, refused.value, now, clock)?;
-            Ok(choice == Choice::Put)
+            matches!(choice, Choice::Put) && is_put_back(cache, refused, now)
         }
         ComputeRefused::NotTold(key, refused) => {
-            cache.insert(key.clone()?, refused.value, now, clock)?;
-            cache.remove(&key, now, clock)?;
-            Ok(choice == Choice::Remove)
+            let again = notes.text("computed", number);
+            matches!(choice, Choice::Remove)
+                && cache.insert(again, refused.value, now, clock).is_ok()
+                && cache.remove(&key, now, clock).is_ok()
         }
     }
 }
 
-/// Whether what is computed is done.
-fn is_computed<W: Write>(
-    alloc: Global,
-    out: &mut W,
-    cache: &mut Cached,
-    choice: Choice,
-    number: u64,
-) -> Result<bool> {
+/// Whether what is chosen is done.
+fn is_computed(notes: &mut Notes, cache: &mut Cached, chosen: (Choice, bool), number: u64) -> bool {
     let now = Instant(number);
-    let (key, value) = (
-        text(alloc, "computed", number)?,
-        text(alloc, "value", number)?,
-    );
-    let is_there = cache.contains_key(&key, now);
+    let (key, value) = (notes.text("computed", number), notes.text("value", number));
     let before = told_by(cache);
-    match compute(cache, choice, key, value, now) {
-        Ok(done) => Ok(is_done(&done, choice, is_there)),
+    match is_done(cache, chosen, key, value, now) {
+        Ok(is_right) => is_right,
         Err(refused) => {
-            let (call, after) = told_of(&refused, before, is_there);
-            tell_refused(out, call, &after, &told_by(cache))?;
-            let chosen = Chosen {
-                choice,
-                number,
-                is_there,
-            };
-            is_done_by_hand(alloc, cache, chosen, refused)
+            let (place, expected) = expected_after(&refused, before, chosen.1);
+            notes.refused("Cache::compute_with", place, &expected, &told_by(cache));
+            is_done_again(notes, cache, chosen, refused, number)
         }
     }
-}
-
-/// Makes each entry call with texts of this number, for one that is not there and for one that is.
-fn ask_entries<W: Write>(
-    alloc: Global,
-    out: &mut W,
-    cache: &mut Cached,
-    number: u64,
-) -> Result<bool> {
-    let mut is_right = true;
-    for entry in ENTRIES {
-        for word in ["made", "other"] {
-            let asked = Asked {
-                entry,
-                number,
-                word,
-            };
-            is_right = is_asked(alloc, out, cache, asked)? && is_right;
-        }
-        let key = text(alloc, "entry", number)?;
-        take_out(out, cache, Removal::Invalidate, &key, Instant(number))?;
-    }
-    Ok(is_right)
 }
 
 /// Makes each call with texts of this number; then a run is made.
-pub fn round<W: Write>(alloc: Global, out: &mut W, cache: &mut Cached, number: u64) -> Result<()> {
-    let mut is_right = ask_entries(alloc, out, cache, number)?;
-    for choice in CHOICES {
-        is_right = is_computed(alloc, out, cache, choice, number)? && is_right;
+pub fn round(notes: &mut Notes, cache: &mut Cached, number: u64) -> Round {
+    let are_asked = are_asked(notes, cache, number);
+    let mut is_right = is_nothing_made(notes, cache, number) && are_asked;
+    for chosen in CHOICES {
+        is_right = is_computed(notes, cache, chosen, number) && is_right;
     }
-    let now = Instant(number);
-    let is_more = cache.run_pending_tasks(now, &mut FixedClock(now));
-    let told = told_by(cache);
-    writeln!(out, "{number}: right {is_right}, more {is_more}, {told:?}")?;
-    Ok(())
+    run(cache, Instant(number), is_right, None)
 }

@@ -1,28 +1,28 @@
-//! `moka-texts` makes the calls that ask for memory on a cache of texts by texts. A call that is refused memory says so
-//! in a line of its own, and is made again: all else that is printed is the same then. `tools/tests/refusals` refuses
-//! each allocation in turn.
+//! `moka-texts` makes the calls that ask for memory on a cache of texts by texts. A call that is refused memory is made
+//! again, and said in a line of its own at the end: all else that is printed is the same then. `tools/tests/refusals`
+//! refuses each allocation in turn.
 #![tactic(auto)]
 
-mod asks;
+mod engine;
 mod entries;
 mod in_segments;
 mod many;
+mod notes;
 mod report;
-mod rounds;
 mod saved;
 mod synchronous;
 
 use crate::in_segments::Segmented;
-use crate::report::Texts;
+use crate::notes::Notes;
+use crate::report::{Report, Round, Texts};
 use crate::synchronous::Cached;
-use anyhow::Result;
 use moka_drive::Cache;
 use moka_engine::{
     CacheConfig, EvictionPolicy, Instant, NoExpiry, NoPredicate, NoWeigher, OutOfMemory,
 };
 use moka_segments::SegmentedCache;
-use report::Report;
 use std::alloc::Global;
+use std::io;
 use std::io::Write;
 use std::time::Duration;
 
@@ -32,71 +32,143 @@ const TEXTS: u64 = 12;
 /// How the caches are made.
 type Config = CacheConfig<NoExpiry, Report, NoPredicate, NoWeigher>;
 
-fn main(rt: HostRuntime) -> Result<()> {
+/// The calls that are made with texts of one number.
+#[derive(Clone, Copy)]
+enum Section {
+    Single,
+    Entries,
+    Many,
+}
+
+fn main(rt: HostRuntime) -> io::Result<()> {
     let mut out = rt.stdout();
-    ask_engine(rt.alloc(), &mut out)?;
-    ask_synchronous(rt.alloc(), &mut out)?;
-    ask_in_segments(rt.alloc(), &mut out)
+    let mut notes = Notes::new(rt.alloc());
+    ask_engine(&mut out, &mut notes)?;
+    ask_synchronous(&mut out, &mut notes)?;
+    ask_many(&mut out, &mut notes)?;
+    ask_in_segments(&mut out, &mut notes)?;
+    notes.print(&mut out)
 }
 
-fn ask_engine<W: Write>(alloc: Global, out: &mut W) -> Result<()> {
-    let mut cache = new_engine(alloc, out)?;
+fn ask_engine<W: Write>(out: &mut W, notes: &mut Notes) -> io::Result<()> {
+    match new_engine(notes) {
+        Ok(mut cache) => make_engine_rounds(out, notes, &mut cache),
+        Err(_) => writeln!(out, "no engine"),
+    }
+}
+
+fn make_engine_rounds<W: Write>(
+    out: &mut W,
+    notes: &mut Notes,
+    cache: &mut Texts,
+) -> io::Result<()> {
     for number in 0..TEXTS {
-        rounds::round(alloc, out, &mut cache, number)?;
+        print(out, number, &engine::round(notes, cache, number))?;
     }
     Ok(())
 }
 
-fn ask_synchronous<W: Write>(alloc: Global, out: &mut W) -> Result<()> {
-    let mut cached = new_cached(alloc, out)?;
-    for number in 0..TEXTS {
-        synchronous::round(alloc, out, &mut cached, number)?;
+fn ask_synchronous<W: Write>(out: &mut W, notes: &mut Notes) -> io::Result<()> {
+    match (new_cached(notes), new_cached(notes)) {
+        (Ok(mut first), Ok(mut second)) => ask_both(out, notes, &mut first, &mut second),
+        _ => writeln!(out, "no cache"),
     }
-    for number in 0..TEXTS {
-        entries::round(alloc, out, &mut cached, number)?;
-    }
-    ask_many(alloc, out)?;
-    save_and_ask(alloc, out, &mut cached)
 }
 
-fn ask_many<W: Write>(alloc: Global, out: &mut W) -> Result<()> {
-    let mut cached = new_cached(alloc, out)?;
+/// Makes the calls with one text on one cache, and saves it into another, which is empty.
+fn ask_both<W: Write>(
+    out: &mut W,
+    notes: &mut Notes,
+    first: &mut Cached,
+    second: &mut Cached,
+) -> io::Result<()> {
+    for section in [Section::Single, Section::Entries] {
+        make_rounds(out, notes, first, section)?;
+    }
+    writeln!(
+        out,
+        "saved: right {}",
+        saved::is_saved(notes, first, second)
+    )
+}
+
+/// Makes the calls with several texts on a cache of their own, which has no memory from others.
+fn ask_many<W: Write>(out: &mut W, notes: &mut Notes) -> io::Result<()> {
+    match new_cached(notes) {
+        Ok(mut cache) => make_rounds(out, notes, &mut cache, Section::Many),
+        Err(_) => writeln!(out, "no cache"),
+    }
+}
+
+fn make_rounds<W: Write>(
+    out: &mut W,
+    notes: &mut Notes,
+    cache: &mut Cached,
+    section: Section,
+) -> io::Result<()> {
     for number in 0..TEXTS {
-        many::round(alloc, out, &mut cached, number)?;
+        let round = match section {
+            Section::Single => synchronous::round(notes, cache, number),
+            Section::Entries => entries::round(notes, cache, number),
+            Section::Many => many::round(notes, cache, number),
+        };
+        print(out, number, &round)?;
     }
     Ok(())
 }
 
-fn save_and_ask<W: Write>(alloc: Global, out: &mut W, first: &mut Cached) -> Result<()> {
-    let mut second = new_cached(alloc, out)?;
-    saved::save_and_ask(alloc, out, first, &mut second, 4)
+fn ask_in_segments<W: Write>(out: &mut W, notes: &mut Notes) -> io::Result<()> {
+    match new_segmented(notes) {
+        Ok(mut cache) => make_rounds_in_segments(out, notes, &mut cache),
+        Err(_) => writeln!(out, "no cache in segments"),
+    }
 }
 
-fn ask_in_segments<W: Write>(alloc: Global, out: &mut W) -> Result<()> {
-    let mut segmented = new_segmented(alloc, out)?;
+fn make_rounds_in_segments<W: Write>(
+    out: &mut W,
+    notes: &mut Notes,
+    cache: &mut Segmented,
+) -> io::Result<()> {
     for number in 0..TEXTS {
-        in_segments::round(alloc, out, &mut segmented, number)?;
+        print(out, number, &in_segments::round(notes, cache, number))?;
     }
     Ok(())
+}
+
+fn print<W: Write>(out: &mut W, number: u64, round: &Round) -> io::Result<()> {
+    let Round {
+        is_right,
+        listed,
+        is_more,
+        told,
+    } = round;
+    writeln!(
+        out,
+        "{number}: right {is_right}, listed {listed:?}, more {is_more}, {told:?}"
+    )
 }
 
 /// Four texts, with a listener and predicates.
 fn config() -> Config {
+    let report = Report {
+        notices: 0,
+        bytes: 0,
+    };
     CacheConfig::default()
         .max_capacity(4)
         .eviction_policy(EvictionPolicy::lru())
         .time_to_live(Duration::from_secs(1))
-        .eviction_listener(Report::default())
+        .eviction_listener(report)
         .support_invalidation_closures()
 }
 
 /// An empty cache with tickets.
-fn new_engine<W: Write>(alloc: Global, out: &mut W) -> Result<Texts> {
-    match empty(alloc) {
+fn new_engine(notes: &mut Notes) -> Result<Texts, OutOfMemory> {
+    match empty(notes.alloc) {
         Ok(cache) => Ok(cache),
         Err(_) => {
-            writeln!(out, "refused: build")?;
-            Ok(empty(alloc)?)
+            notes.say("build", "");
+            empty(notes.alloc)
         }
     }
 }
@@ -106,12 +178,12 @@ fn empty(alloc: Global) -> Result<Texts, OutOfMemory> {
 }
 
 /// An empty synchronous cache.
-fn new_cached<W: Write>(alloc: Global, out: &mut W) -> Result<Cached> {
-    match empty_cached(alloc) {
+fn new_cached(notes: &mut Notes) -> Result<Cached, OutOfMemory> {
+    match empty_cached(notes.alloc) {
         Ok(cached) => Ok(cached),
         Err(_) => {
-            writeln!(out, "refused: Cache::build")?;
-            Ok(empty_cached(alloc)?)
+            notes.say("Cache::build", "");
+            empty_cached(notes.alloc)
         }
     }
 }
@@ -121,12 +193,12 @@ fn empty_cached(alloc: Global) -> Result<Cached, OutOfMemory> {
 }
 
 /// An empty cache in segments.
-fn new_segmented<W: Write>(alloc: Global, out: &mut W) -> Result<Segmented> {
-    match empty_segmented(alloc) {
+fn new_segmented(notes: &mut Notes) -> Result<Segmented, OutOfMemory> {
+    match empty_segmented(notes.alloc) {
         Ok(segmented) => Ok(segmented),
         Err(_) => {
-            writeln!(out, "refused: SegmentedCache::build")?;
-            Ok(empty_segmented(alloc)?)
+            notes.say("SegmentedCache::build", "");
+            empty_segmented(notes.alloc)
         }
     }
 }

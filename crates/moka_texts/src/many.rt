@@ -1,39 +1,64 @@
 //! Calls with several texts at once. What a refusal left is done one by one.
-use crate::report::{tell_refused, text};
-use crate::synchronous::{Cached, told_by};
-use anyhow::Result;
-use moka_drive::{GetManyRefused, InsertManyRefused, InvalidateManyRefused};
+use crate::notes::Notes;
+use crate::report::Round;
+use crate::synchronous::{Cached, is_put_back, run, told_by};
+use moka_drive::{GetManyRefused, InsertManyRefused, InvalidateManyRefused, Stats};
 use moka_engine::{FixedClock, Instant};
-use std::alloc::{AllocError, Global};
-use std::io::Write;
 
 /// How many texts each call is made with.
 const COUNT: u64 = 3;
 
-/// Room for so many items. If memory for it is refused, it is asked for again.
-fn room<T>(alloc: Global) -> Result<Vec<T>, AllocError> {
-    match Vec::with_capacity(alloc, COUNT as usize) {
-        Ok(items) => Ok(items),
-        Err(_) => Vec::with_capacity(alloc, COUNT as usize),
-    }
+/// Texts that begin with a word.
+fn texts(notes: &Notes, word: &str, number: u64) -> [String; 3] {
+    let first = number.wrapping_mul(COUNT);
+    let second = first.wrapping_add(1);
+    let third = second.wrapping_add(1);
+    [
+        notes.text(word, first),
+        notes.text(word, second),
+        notes.text(word, third),
+    ]
 }
 
-fn texts(alloc: Global, word: &str, number: u64) -> Result<Vec<String>> {
-    let mut texts = room(alloc)?;
+/// Keys and values. If memory for the list is refused, it is asked for again with the first of them.
+fn items(notes: &Notes, number: u64) -> Vec<(String, String)> {
+    let mut items = match Vec::with_capacity(notes.alloc, COUNT as usize) {
+        Ok(items) => items,
+        Err(_) => Vec::new(notes.alloc),
+    };
     for index in 0..COUNT {
         let item = number.wrapping_mul(COUNT).wrapping_add(index);
-        texts.push(text(alloc, word, item)?)?;
+        let pair = (notes.text("many", item), notes.text("value", item));
+        if items.push(pair).is_err() {
+            return items;
+        }
     }
-    Ok(texts)
+    items
 }
 
-fn items(alloc: Global, number: u64) -> Result<Vec<(String, String)>> {
-    let mut items = room(alloc)?;
-    for index in 0..COUNT {
-        let item = number.wrapping_mul(COUNT).wrapping_add(index);
-        items.push((text(alloc, "many", item)?, text(alloc, "value", item)?))?;
+/// Whether the texts of this number are put in.
+fn are_put(notes: &mut Notes, cache: &mut Cached, number: u64) -> bool {
+    let (now, clock) = (Instant(number), &mut FixedClock(Instant(number)));
+    let items = items(notes, number);
+    let before = told_by(cache);
+    match cache.insert_many(items, now, clock) {
+        Ok(()) => true,
+        Err(
+            InsertManyRefused {
+                done,
+                refused,
+                rest,
+            },
+        ) => {
+            let expected = before.after_writes(done);
+            notes.refused("Cache::insert_many", "", &expected, &told_by(cache));
+            let mut is_right = is_put_back(cache, refused, now);
+            for (key, value) in rest {
+                is_right = cache.insert(key, value, now, clock).is_ok() && is_right;
+            }
+            is_right
+        }
     }
-    Ok(items)
 }
 
 /// How many of these are there.
@@ -47,75 +72,54 @@ fn hits(found: &[Option<String>]) -> u64 {
     hits
 }
 
-/// Puts the texts of this number in.
-fn put_all<W: Write>(alloc: Global, out: &mut W, cache: &mut Cached, number: u64) -> Result<()> {
-    let (now, clock) = (Instant(number), &mut FixedClock(Instant(number)));
-    let items = items(alloc, number)?;
-    let before = told_by(cache);
-    if let Err(
-        InsertManyRefused {
-            done,
-            refused,
-            rest,
-        },
-    ) = cache.insert_many(items, now, clock)
-    {
-        tell_refused(
-            out,
-            "Cache::insert_many",
-            &before.after_writes(done),
-            &told_by(cache),
-        )?;
-        cache.insert(refused.key, refused.value, now, clock)?;
-        for (key, value) in rest {
-            cache.insert(key, value, now, clock)?;
-        }
-    }
-    Ok(())
-}
-
 /// How many of the keys that begin with a word are there.
-fn hits_of<W: Write>(
-    alloc: Global,
-    out: &mut W,
-    cache: &mut Cached,
-    word: &str,
-    number: u64,
-) -> Result<u64> {
-    let (now, clock) = (Instant(number), &mut FixedClock(Instant(number)));
-    let keys = texts(alloc, word, number)?;
+fn hits_of(notes: &mut Notes, cache: &mut Cached, word: &str, number: u64) -> u64 {
+    let now = Instant(number);
+    let keys = texts(notes, word, number);
     let before = told_by(cache);
-    match cache.get_many(alloc, &keys, now, clock) {
-        Ok(found) => Ok(hits(&found)),
+    match cache.get_many(notes.alloc, &keys, now, &mut FixedClock(now)) {
+        Ok(found) => hits(&found),
         Err(GetManyRefused { found }) => {
-            let hits = hits(&found);
-            let misses = (found.len() as u64).wrapping_sub(hits);
-            let after = before.after_look_ups(hits, misses);
-            tell_refused(out, "Cache::get_many", &after, &told_by(cache))?;
-            Ok(hits.wrapping_add(hits_past(cache, &keys, found.len(), now)?))
+            let (hits, done) = (hits(&found), found.len());
+            let misses = (done as u64).wrapping_sub(hits);
+            let counted = Stats {
+                hits,
+                misses,
+                loads: 0,
+            };
+            notes.refused(
+                "Cache::get_many",
+                "",
+                &before.after(counted),
+                &told_by(cache),
+            );
+            hits.wrapping_add(hits_past(cache, &keys, done, now))
         }
     }
 }
 
 /// How many of the keys from this one on are there.
-fn hits_past(cache: &mut Cached, keys: &[String], done: usize, now: Instant) -> Result<u64> {
+fn hits_past(cache: &mut Cached, keys: &[String], done: usize, now: Instant) -> u64 {
     let mut hits = 0_u64;
     for key in keys.iter().skip(done) {
-        if cache.get(key, now, &mut FixedClock(now))?.is_some() {
+        if matches!(cache.get(key, now, &mut FixedClock(now)), Ok(Some(_))) {
             hits = hits.wrapping_add(1);
         }
     }
-    Ok(hits)
+    hits
 }
 
 /// How many texts are visible.
-fn visible<W: Write>(out: &mut W, cache: &Cached, now: Instant) -> Result<usize> {
+fn visible(notes: &mut Notes, cache: &Cached, now: Instant) -> usize {
     let before = told_by(cache);
     match cache.iter(now) {
-        Ok(entries) => Ok(entries.len()),
+        Ok(entries) => entries.len(),
         Err(_) => {
-            tell_refused(out, "Cache::iter", &before, &told_by(cache))?;
-            Ok(cache.iter(now)?.len())
+            notes.refused("Cache::iter", "", &before, &told_by(cache));
+            match cache.iter(now) {
+                Ok(entries) => entries.len(),
+                Err(_) => 0,
+            }
         }
     }
 }
@@ -130,73 +134,52 @@ fn counted(keys: &[String], values: &[String], done: usize) -> (u64, usize) {
     (count, bytes)
 }
 
-/// Takes the texts of the keys from this one on out. The listener was not told of the first, so that is put in before.
-fn take_rest_out(
-    cache: &mut Cached,
-    keys: &[String],
-    done: usize,
-    value: String,
-    now: Instant,
-) -> Result<()> {
-    let clock = &mut FixedClock(now);
-    if let Some(key) = keys.get(done) {
-        cache.insert(key.clone()?, value, now, clock)?;
-    }
+/// Whether the texts of these keys are taken out.
+fn are_invalidated(cache: &mut Cached, keys: &[String], done: usize, now: Instant) -> bool {
+    let mut is_right = true;
     for key in keys.iter().skip(done) {
-        cache.invalidate(key, now, clock)?;
+        is_right = cache.invalidate(key, now, &mut FixedClock(now)).is_ok() && is_right;
     }
-    Ok(())
+    is_right
 }
 
-/// Takes the texts of this number out.
-fn take_all_out<W: Write>(
-    alloc: Global,
-    out: &mut W,
-    cache: &mut Cached,
-    number: u64,
-) -> Result<()> {
+/// Whether the texts of this number are taken out. If the listener was not told of one, that is put in again, and then
+/// taken out with those behind it.
+fn are_taken_out(notes: &mut Notes, cache: &mut Cached, number: u64) -> bool {
     let now = Instant(number);
-    let keys = texts(alloc, "many", number)?;
-    let values = texts(alloc, "value", number)?;
+    let (keys, values) = (texts(notes, "many", number), texts(notes, "value", number));
     let before = told_by(cache);
-    if let Err(refused) = cache.invalidate_many(&keys, now, &mut FixedClock(now)) {
-        let InvalidateManyRefused { done, refused } = refused;
-        let (notices, bytes) = counted(&keys, &values, done);
-        let after = before
-            .after_writes(done.wrapping_add(1))
-            .after_notices(notices, bytes);
-        tell_refused(out, "Cache::invalidate_many", &after, &told_by(cache))?;
-        take_rest_out(cache, &keys, done, refused.value, now)?;
+    match cache.invalidate_many(&keys, now, &mut FixedClock(now)) {
+        Ok(()) => true,
+        Err(InvalidateManyRefused { done, refused }) => {
+            let (notices, bytes) = counted(&keys, &values, done);
+            let expected = before
+                .after_writes(done.wrapping_add(1))
+                .after_notices(notices, bytes);
+            notes.refused("Cache::invalidate_many", "", &expected, &told_by(cache));
+            let item = number.wrapping_mul(COUNT).wrapping_add(done as u64);
+            let key = notes.text("many", item);
+            let is_put = cache
+                .insert(key, refused.value, now, &mut FixedClock(now))
+                .is_ok();
+            is_put && are_invalidated(cache, &keys, done, now)
+        }
     }
-    Ok(())
-}
-
-/// Makes a run, and says what the cache tells then, and how many of which keys were there, and how many visible.
-fn run<W: Write>(
-    out: &mut W,
-    cache: &mut Cached,
-    number: u64,
-    (found, missed): (u64, u64),
-    visible: usize,
-) -> Result<()> {
-    let now = Instant(number);
-    let is_more = cache.run_pending_tasks(now, &mut FixedClock(now));
-    let told = told_by(cache);
-    writeln!(
-        out,
-        "{number}: {found} and {missed} found, {visible} visible, more {is_more}, {told:?}"
-    )?;
-    Ok(())
 }
 
 /// Makes each call with texts of this number; then a run is made.
-pub fn round<W: Write>(alloc: Global, out: &mut W, cache: &mut Cached, number: u64) -> Result<()> {
-    put_all(alloc, out, cache, number)?;
-    let found = hits_of(alloc, out, cache, "many", number)?;
-    let missed = hits_of(alloc, out, cache, "none", number)?;
-    let visible = visible(out, cache, Instant(number))?;
-    if number % 2 == 1 {
-        take_all_out(alloc, out, cache, number)?;
-    }
-    run(out, cache, number, (found, missed), visible)
+pub fn round(notes: &mut Notes, cache: &mut Cached, number: u64) -> Round {
+    let now = Instant(number);
+    let are_put = are_put(notes, cache, number);
+    let found = hits_of(notes, cache, "many", number);
+    let missed = hits_of(notes, cache, "none", number);
+    let visible = visible(notes, cache, now);
+    let are_kept = number % 2 == 0;
+    let is_right = (are_kept || are_taken_out(notes, cache, number)) && are_put;
+    run(
+        cache,
+        now,
+        is_right && found == COUNT && missed == 0,
+        Some(visible),
+    )
 }

@@ -1,25 +1,12 @@
 //! What a cache tells of itself, and its listener of it.
-use anyhow::Result;
 use moka_drive::Stats;
 use moka_engine::{Engine, Listener, NoExpiry, NoPredicate, RemovalCause, Ticket};
-use std::alloc::{AllocError, Global};
-use std::fmt;
-use std::io::Write;
 
 /// Counts the notices, and the bytes of their keys and values.
-#[derive(Clone, Copy, Debug, PartialEq, Eq)]
+#[derive(Clone, Copy)]
 pub struct Report {
     pub notices: u64,
     pub bytes: usize,
-}
-
-impl Default for Report {
-    fn default() -> Self {
-        Report {
-            notices: 0,
-            bytes: 0,
-        }
-    }
 }
 
 impl Listener<String, String> for Report {
@@ -34,94 +21,82 @@ impl Listener<String, String> for Report {
 /// A cache of texts by texts.
 pub type Texts = Engine<String, String, NoExpiry, Report, NoPredicate>;
 
-/// What a cache tells of itself.
+/// What a cache tells of itself, how many notices its listener had with how many bytes, and what was counted.
 #[derive(Clone, Copy, Debug, PartialEq, Eq)]
-pub struct State {
+pub struct Told {
     pub entries: u64,
     pub predicates: u64,
     pub outstanding: u64,
     pub oldest: Option<Ticket>,
     pub writes: usize,
     pub reads: usize,
-    pub report: Option<Report>,
+    pub notices: u64,
+    pub bytes: usize,
+    pub stats: Stats,
 }
 
-pub fn state_of(cache: &Texts) -> State {
-    State {
+/// What a cache tells, of which this was counted.
+pub fn told_of(cache: &Texts, stats: Stats) -> Told {
+    let (notices, bytes) = match cache.listener() {
+        Some(report) => (report.notices, report.bytes),
+        None => (0, 0),
+    };
+    Told {
         entries: cache.entry_count(),
         predicates: cache.invalidation_predicate_count(),
         outstanding: cache.outstanding(),
         oldest: cache.oldest_unsent(),
         writes: cache.queued_writes(),
         reads: cache.queued_reads(),
-        report: cache.listener().copied(),
+        notices,
+        bytes,
+        stats,
     }
-}
-
-/// What a cache tells of itself, and what it counted.
-#[derive(Clone, Copy, Debug, PartialEq, Eq)]
-pub struct Told {
-    pub state: State,
-    pub stats: Stats,
 }
 
 impl Told {
-    /// After so many look-ups that hit, and that missed.
-    pub fn after_look_ups(self, hits: u64, misses: u64) -> Told {
+    /// After these look-ups and loads.
+    pub fn after(self, counted: Stats) -> Told {
+        let looked_up = counted.hits.wrapping_add(counted.misses) as usize;
         let mut after = self;
-        let reads = hits.wrapping_add(misses) as usize;
-        after.state.reads = self.state.reads.wrapping_add(reads);
-        after.stats.hits = self.stats.hits.wrapping_add(hits);
-        after.stats.misses = self.stats.misses.wrapping_add(misses);
-        after
-    }
-
-    /// After a value was made.
-    pub fn after_load(self) -> Told {
-        let mut after = self;
-        after.stats.loads = self.stats.loads.wrapping_add(1);
+        after.reads = self.reads.wrapping_add(looked_up);
+        after.stats.hits = self.stats.hits.wrapping_add(counted.hits);
+        after.stats.misses = self.stats.misses.wrapping_add(counted.misses);
+        after.stats.loads = self.stats.loads.wrapping_add(counted.loads);
         after
     }
 
     /// After so many inserts and removals of which the listener was not told.
     pub fn after_writes(self, writes: usize) -> Told {
         let mut after = self;
-        after.state.writes = self.state.writes.wrapping_add(writes);
+        after.writes = self.writes.wrapping_add(writes);
         after
     }
 
     /// After so many notices of texts with so many bytes.
     pub fn after_notices(self, notices: u64, bytes: usize) -> Told {
         let mut after = self;
-        after.state.report = match self.state.report {
-            Some(report) => Some(Report {
-                notices: report.notices.wrapping_add(notices),
-                bytes: report.bytes.wrapping_add(bytes),
-            }),
-            None => None,
-        };
+        after.notices = self.notices.wrapping_add(notices);
+        after.bytes = self.bytes.wrapping_add(bytes);
         after
     }
 }
 
-/// A text. Where memory for it is refused, it is made again.
-pub fn text(alloc: Global, word: &str, number: u64) -> Result<String, AllocError> {
-    match format!(in alloc; "{word} {number}") {
-        Ok(text) => Ok(text),
-        Err(_) => format!(in alloc; "{word} {number}"),
+/// A look-up that finds its key, or does not.
+pub fn looked_up(is_there: bool) -> Stats {
+    Stats {
+        hits: u64::from(is_there),
+        misses: u64::from(!is_there),
+        loads: 0,
     }
 }
 
-/// Says that a call was refused, and whether the cache tells something else than is expected after it.
-pub fn tell_refused<W: Write, S: fmt::Debug + PartialEq>(
-    out: &mut W,
-    call: &str,
-    expected: &S,
-    after: &S,
-) -> Result<()> {
-    writeln!(out, "refused: {call}")?;
-    if expected != after {
-        writeln!(out, "changed: {expected:?} to {after:?}")?;
-    }
-    Ok(())
+/// What a round of calls showed: whether each answered as it should, how many texts with how many bytes were listed,
+/// whether a run left more to be done, and what the cache told then.
+#[derive(Clone, Copy)]
+pub struct Round {
+    pub is_right: bool,
+    pub listed: Option<usize>,
+    pub is_more: bool,
+    pub told: Told,
 }

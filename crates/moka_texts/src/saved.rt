@@ -1,87 +1,89 @@
 //! A cache that is saved, and another one that is made of what was saved, asked by texts that need not be owned.
-use crate::report::{tell_refused, text};
-use crate::synchronous::{Cached, put, told_by};
-use anyhow::Result;
+use crate::notes::Notes;
+use crate::synchronous::{Cached, is_put, told_by};
 use moka_drive::RestoreManyRefused;
-use moka_engine::{FixedClock, Instant, Restored};
-use std::alloc::Global;
-use std::io::Write;
+use moka_engine::{FixedClock, Instant, OutOfMemory, Restored};
+
+/// How many texts are saved.
+const SAVED: u64 = 4;
+
+/// When they are.
+const NOW: Instant = Instant(1_000);
 
 /// Clones of a cache's entries.
-fn save<W: Write>(
-    alloc: Global,
-    out: &mut W,
+fn save(
+    notes: &mut Notes,
     cache: &mut Cached,
-    now: Instant,
-) -> Result<Vec<Restored<String, String>>> {
-    match cache.save(alloc, now, &mut FixedClock(now)) {
+) -> Result<Vec<Restored<String, String>>, OutOfMemory> {
+    match cache.save(notes.alloc, NOW, &mut FixedClock(NOW)) {
         Ok(saved) => Ok(saved),
         Err(_) => {
-            writeln!(out, "refused: Cache::save")?;
-            Ok(cache.save(alloc, now, &mut FixedClock(now))?)
+            notes.say("Cache::save", "");
+            cache.save(notes.alloc, NOW, &mut FixedClock(NOW))
         }
     }
 }
 
-/// Puts entries back. One that is refused is put back again, and then those behind it.
-fn put_back<W: Write>(
-    out: &mut W,
+/// Whether all entries are put back. One that is refused is put back again, and then those behind it.
+fn are_put_back(
+    notes: &mut Notes,
     cache: &mut Cached,
     saved: Vec<Restored<String, String>>,
-    now: Instant,
-) -> Result<()> {
-    if let Err(RestoreManyRefused { refused, rest }) = cache.restore(
-        saved,
-        now,
-        &mut FixedClock(now),
-    ) {
-        writeln!(out, "refused: Cache::restore")?;
-        cache.restore_entry(refused.item, now, &mut FixedClock(now))?;
-        for item in rest {
-            cache.restore_entry(item, now, &mut FixedClock(now))?;
+) -> bool {
+    let clock = &mut FixedClock(NOW);
+    match cache.restore(saved, NOW, clock) {
+        Ok(()) => true,
+        Err(RestoreManyRefused { refused, rest }) => {
+            notes.say("Cache::restore", "");
+            let mut is_right = cache.restore_entry(refused.item, NOW, clock).is_ok();
+            for item in rest {
+                is_right = cache.restore_entry(item, NOW, clock).is_ok() && is_right;
+            }
+            is_right
         }
     }
-    Ok(())
 }
 
 /// A clone of a key's text, if it is there, asked for by the key's bytes alone.
-fn get<W: Write>(
-    out: &mut W,
-    cache: &mut Cached,
-    key: &str,
-    now: Instant,
-) -> Result<Option<String>> {
+fn get(notes: &mut Notes, cache: &mut Cached, key: &str) -> Option<String> {
     let hash = cache.hash_of(&key);
     let before = told_by(cache);
-    match cache.get_by(&key, hash, now, &mut FixedClock(now)) {
-        Ok(found) => Ok(found),
+    match cache.get_by(&key, hash, NOW, &mut FixedClock(NOW)) {
+        Ok(found) => found,
         Err(_) => {
-            tell_refused(out, "Cache::get_by", &before, &told_by(cache))?;
-            Ok(cache.get_by(&key, hash, now, &mut FixedClock(now))?)
+            notes.refused("Cache::get_by", "", &before, &told_by(cache));
+            cache
+                .get_by(&key, hash, NOW, &mut FixedClock(NOW))
+                .unwrap_or(None)
         }
     }
 }
 
-/// Puts so many texts into a cache and saves it, puts what was saved into another, which is empty, and asks that for
-/// each.
-pub fn save_and_ask<W: Write>(
-    alloc: Global,
-    out: &mut W,
-    first: &mut Cached,
-    second: &mut Cached,
-    texts: u64,
-) -> Result<()> {
-    let now = Instant(1_000);
-    for number in 0..texts {
-        let (key, value) = (text(alloc, "saved", number)?, text(alloc, "text", number)?);
-        put(out, first, key, value, now)?;
+/// Whether texts are put in.
+fn are_put(notes: &mut Notes, cache: &mut Cached) -> bool {
+    let mut is_right = true;
+    for number in 0..SAVED {
+        is_right = is_put(notes, cache, ("saved", "text"), number, NOW) && is_right;
     }
-    let saved = save(alloc, out, first, now)?;
-    put_back(out, second, saved, now)?;
-    for number in 0..texts {
-        let key = text(alloc, "saved", number)?;
-        let found = get(out, second, &key, now)?;
-        writeln!(out, "{key}: {found:?}")?;
+    is_right
+}
+
+/// Whether these texts are found.
+fn are_found(notes: &mut Notes, cache: &mut Cached) -> bool {
+    let mut is_right = true;
+    for number in 0..SAVED {
+        let (key, value) = (notes.text("saved", number), notes.text("text", number));
+        is_right = get(notes, cache, &key) == Some(value) && is_right;
     }
-    Ok(())
+    is_right
+}
+
+/// Whether texts that are put into a cache, which is saved, are found in another one, which is empty, once what was
+/// saved is put into that.
+pub fn is_saved(notes: &mut Notes, first: &mut Cached, second: &mut Cached) -> bool {
+    let are_put = are_put(notes, first);
+    match save(notes, first) {
+        Ok(saved) => are_put && are_put_back(notes, second, saved) && are_found(notes, second),
+        Err(_) => false,
+    }
 }

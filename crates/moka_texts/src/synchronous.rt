@@ -1,57 +1,16 @@
 //! The calls of the synchronous cache, made with one text after the other.
-use crate::asks::Ids;
-use crate::report::{Report, Told, state_of, tell_refused, text};
-use anyhow::Result;
-use moka_drive::{Cache, GetWithRefused, NotTold};
-use moka_engine::{FixedClock, InsertRefused, Instant, NoExpiry, NoPredicate, OutOfMemory};
-use std::alloc::Global;
-use std::io::Write;
+use crate::engine::Ids;
+use crate::notes::Notes;
+use crate::report::{Report, Round, Told, told_of};
+use moka_drive::{Cache, NotTold};
+use moka_engine::{FixedClock, InsertRefused, Instant, NoExpiry, NoPredicate};
 
 /// A synchronous cache of texts by texts.
 pub type Cached = Cache<String, String, NoExpiry, Report, NoPredicate>;
 
 /// What a cache tells of itself now.
 pub fn told_by(cache: &Cached) -> Told {
-    Told {
-        state: state_of(cache.engine()),
-        stats: cache.stats(),
-    }
-}
-
-/// A get with a maker.
-#[derive(Clone, Copy)]
-enum Maker {
-    Makes,
-    MayDecline,
-    MayFail,
-}
-
-const MAKERS: [Maker; 3] = [Maker::Makes, Maker::MayDecline, Maker::MayFail];
-
-impl Maker {
-    fn name(self) -> &'static str {
-        match self {
-            Maker::Makes => "get_with",
-            Maker::MayDecline => "optionally_get_with",
-            Maker::MayFail => "try_get_with",
-        }
-    }
-
-    fn at_look_up(self) -> &'static str {
-        match self {
-            Maker::Makes => "Cache::get_with at the look-up",
-            Maker::MayDecline => "Cache::optionally_get_with at the look-up",
-            Maker::MayFail => "Cache::try_get_with at the look-up",
-        }
-    }
-
-    fn at_insert(self) -> &'static str {
-        match self {
-            Maker::Makes => "Cache::get_with at the insert",
-            Maker::MayDecline => "Cache::optionally_get_with at the insert",
-            Maker::MayFail => "Cache::try_get_with at the insert",
-        }
-    }
+    told_of(cache.engine(), cache.stats())
 }
 
 /// How a text is taken out.
@@ -63,122 +22,46 @@ pub enum Removal {
     InvalidateBy,
 }
 
-impl Removal {
-    fn name(self) -> &'static str {
-        match self {
-            Removal::Remove => "Cache::remove",
-            Removal::RemoveBy => "Cache::remove_by",
-            Removal::Invalidate => "Cache::invalidate",
-            Removal::InvalidateBy => "Cache::invalidate_by",
-        }
-    }
-}
-
-/// Puts a text in.
-pub fn put<W: Write>(
-    out: &mut W,
+/// Whether a text is put in, at the second time if not at the first. Key and value begin with these words.
+pub fn is_put(
+    notes: &mut Notes,
     cache: &mut Cached,
-    key: String,
-    value: String,
+    (word, begin): (&str, &str),
+    number: u64,
     now: Instant,
-) -> Result<()> {
+) -> bool {
+    let (key, value) = (notes.text(word, number), notes.text(begin, number));
     let before = told_by(cache);
-    if let Err(refused) = cache.insert(key, value, now, &mut FixedClock(now)) {
-        tell_refused(out, "Cache::insert", &before, &told_by(cache))?;
-        cache.insert(refused.key, refused.value, now, &mut FixedClock(now))?;
-    }
-    Ok(())
-}
-
-/// A text's clone, if it is there.
-fn get<W: Write>(
-    out: &mut W,
-    cache: &mut Cached,
-    key: &String,
-    now: Instant,
-) -> Result<Option<String>> {
-    let before = told_by(cache);
-    match cache.get(key, now, &mut FixedClock(now)) {
-        Ok(found) => Ok(found),
-        Err(_) => {
-            tell_refused(out, "Cache::get", &before, &told_by(cache))?;
-            Ok(cache.get(key, now, &mut FixedClock(now))?)
+    match cache.insert(key, value, now, &mut FixedClock(now)) {
+        Ok(()) => true,
+        Err(refused) => {
+            notes.refused("Cache::insert", "", &before, &told_by(cache));
+            is_put_back(cache, refused, now)
         }
     }
 }
 
-/// The text of a key, or else the one that is made.
-fn get_or_make(
-    cache: &mut Cached,
-    maker: Maker,
-    key: String,
-    made: String,
-    now: Instant,
-) -> Result<Option<String>, GetWithRefused<String, String>> {
-    let clock = &mut FixedClock(now);
-    match maker {
-        Maker::Makes => Ok(Some(cache.get_with(key, || made, now, clock)?)),
-        Maker::MayDecline => cache.optionally_get_with(key, || Some(made), now, clock),
-        Maker::MayFail => {
-            let answer = cache.try_get_with(key, || Ok::<String, OutOfMemory>(made), now, clock)?;
-            Ok(answer.ok())
-        }
-    }
-}
-
-/// Inserts what came back of a call that was to hand out its value, and hands a clone of it out.
-pub fn insert_made(
+/// Whether what came back of a call is put in.
+pub fn is_put_back(
     cache: &mut Cached,
     refused: InsertRefused<String, String>,
     now: Instant,
-) -> Result<Option<String>> {
-    let copy = refused.value.clone()?;
-    cache.insert(refused.key, refused.value, now, &mut FixedClock(now))?;
-    Ok(Some(copy))
+) -> bool {
+    cache
+        .insert(refused.key, refused.value, now, &mut FixedClock(now))
+        .is_ok()
 }
 
-/// The text of the maker's own key, made where it is not there. A look-up that is refused is made again with the key
-/// that came back, and an insert with key and value.
-fn made_by<W: Write>(
-    alloc: Global,
-    out: &mut W,
-    cache: &mut Cached,
-    maker: Maker,
-    number: u64,
-) -> Result<Option<String>> {
-    let now = Instant(number);
-    let key = text(alloc, maker.name(), number)?;
-    let made = text(alloc, "made", number)?;
+/// A text's clone, if it is there.
+fn get(notes: &mut Notes, cache: &mut Cached, key: &String, now: Instant) -> Option<String> {
     let before = told_by(cache);
-    match get_or_make(cache, maker, key, made, now) {
-        Ok(value) => Ok(value),
-        Err(GetWithRefused::Lookup(key)) => {
-            tell_refused(out, maker.at_look_up(), &before, &told_by(cache))?;
-            let made = text(alloc, "made", number)?;
-            Ok(get_or_make(cache, maker, key, made, now)?)
-        }
-        Err(GetWithRefused::Insert(refused)) => {
-            tell_refused(
-                out,
-                maker.at_insert(),
-                &before.after_look_ups(0, 1).after_load(),
-                &told_by(cache),
-            )?;
-            insert_made(cache, refused, now)
+    match cache.get(key, now, &mut FixedClock(now)) {
+        Ok(found) => found,
+        Err(_) => {
+            notes.refused("Cache::get", "", &before, &told_by(cache));
+            cache.get(key, now, &mut FixedClock(now)).unwrap_or(None)
         }
     }
-}
-
-/// Whether nothing is answered and nothing inserted where makers decline and fail.
-fn is_nothing_made(alloc: Global, cache: &mut Cached, number: u64) -> Result<bool> {
-    let now = Instant(number);
-    let clock = &mut FixedClock(now);
-    let key = text(alloc, "nothing", number)?;
-    let declined = cache.optionally_get_with(key, || None, now, clock)?;
-    let key = text(alloc, "nothing", number)?;
-    let failed = cache.try_get_with(key, || Err::<String, u64>(7), now, clock)?;
-    let asked = text(alloc, "nothing", number)?;
-    Ok(declined.is_none() && failed == Err(7) && !cache.contains_key(&asked, now))
 }
 
 fn remove(
@@ -191,133 +74,99 @@ fn remove(
     let form = key.as_str();
     let hash = cache.hash_of(&form);
     match removal {
-        Removal::Remove => cache.remove(key, now, clock).map(|_| ()),
-        Removal::RemoveBy => cache.remove_by(&form, hash, now, clock).map(|_| ()),
+        Removal::Remove => {
+            cache.remove(key, now, clock)?;
+            Ok(())
+        }
+        Removal::RemoveBy => {
+            cache.remove_by(&form, hash, now, clock)?;
+            Ok(())
+        }
         Removal::Invalidate => cache.invalidate(key, now, clock),
         Removal::InvalidateBy => cache.invalidate_by(&form, hash, now, clock),
     }
 }
 
-/// Takes a text out. If the listener was not told of it, the value that came back is put in and taken out again.
-pub fn take_out<W: Write>(
-    out: &mut W,
+/// Whether a text is taken out, and there no more. If the listener was not told of it, the value that came back is put
+/// in and taken out again.
+pub fn is_taken_out(
+    notes: &mut Notes,
     cache: &mut Cached,
-    removal: Removal,
-    key: &String,
-    now: Instant,
-) -> Result<()> {
-    let before = told_by(cache);
-    if let Err(refused) = remove(cache, removal, key, now) {
-        tell_refused(
-            out,
-            removal.name(),
-            &before.after_writes(1),
-            &told_by(cache),
-        )?;
-        cache.insert(key.clone()?, refused.value, now, &mut FixedClock(now))?;
-        remove(cache, removal, key, now)?;
-    }
-    Ok(())
-}
-
-/// Registers a predicate that covers nothing.
-fn register<W: Write>(out: &mut W, cache: &mut Cached, now: Instant) -> Result<()> {
-    let before = told_by(cache);
-    let mut ids = Ids(u128::from(before.state.predicates));
-    if let Err(refused) = cache.invalidate_entries_if(NoPredicate, now, &mut ids) {
-        tell_refused(
-            out,
-            "Cache::invalidate_entries_if",
-            &before,
-            &told_by(cache),
-        )?;
-        cache.invalidate_entries_if(refused.predicate, now, &mut ids)?;
-    }
-    Ok(())
-}
-
-/// Puts a text whose value begins with a word in.
-fn put_word<W: Write>(
-    alloc: Global,
-    out: &mut W,
-    cache: &mut Cached,
+    (removal, call): (Removal, &'static str),
     word: &str,
     number: u64,
-) -> Result<()> {
-    let (key, value) = (text(alloc, "key", number)?, text(alloc, word, number)?);
-    put(out, cache, key, value, Instant(number))
+) -> bool {
+    let now = Instant(number);
+    let (key, again) = (notes.text(word, number), notes.text(word, number));
+    let before = told_by(cache);
+    let is_removed = match remove(cache, removal, &key, now) {
+        Ok(()) => true,
+        Err(refused) => {
+            notes.refused(call, "", &before.after_writes(1), &told_by(cache));
+            let is_put = cache
+                .insert(again, refused.value, now, &mut FixedClock(now))
+                .is_ok();
+            is_put && remove(cache, removal, &key, now).is_ok()
+        }
+    };
+    is_removed && !cache.contains_key(&key, now)
+}
+
+/// Whether a predicate is registered, which covers nothing.
+fn is_registered(notes: &mut Notes, cache: &mut Cached, now: Instant) -> bool {
+    let before = told_by(cache);
+    let mut ids = Ids(u128::from(before.predicates));
+    match cache.invalidate_entries_if(NoPredicate, now, &mut ids) {
+        Ok(_) => true,
+        Err(refused) => {
+            notes.refused("Cache::invalidate_entries_if", "", &before, &told_by(cache));
+            cache
+                .invalidate_entries_if(refused.predicate, now, &mut ids)
+                .is_ok()
+        }
+    }
 }
 
 /// Asks for a text that is not there, puts it in twice, and asks again.
-fn put_and_get<W: Write>(
-    alloc: Global,
-    out: &mut W,
-    cache: &mut Cached,
-    number: u64,
-) -> Result<bool> {
+fn is_put_and_got(notes: &mut Notes, cache: &mut Cached, number: u64) -> bool {
     let now = Instant(number);
-    let key = text(alloc, "key", number)?;
-    let missed = get(out, cache, &key, now)?;
-    put_word(alloc, out, cache, "first", number)?;
-    put_word(alloc, out, cache, "value", number)?;
-    let found = get(out, cache, &key, now)?;
-    Ok(missed.is_none() && found == Some(text(alloc, "value", number)?))
+    let (key, value) = (notes.text("key", number), notes.text("value", number));
+    let missed = get(notes, cache, &key, now);
+    let is_first_put = is_put(notes, cache, ("key", "first"), number, now);
+    let is_put = is_put(notes, cache, ("key", "value"), number, now);
+    let found = get(notes, cache, &key, now);
+    missed.is_none() && is_first_put && is_put && found == Some(value)
 }
 
-/// Asks each maker twice: the first time it makes the text, and the second time the text is there.
-fn ask_makers<W: Write>(
-    alloc: Global,
-    out: &mut W,
-    cache: &mut Cached,
-    number: u64,
-) -> Result<bool> {
-    let expected = Some(text(alloc, "made", number)?);
-    let mut is_right = true;
-    for maker in MAKERS {
-        let made = made_by(alloc, out, cache, maker, number)?;
-        let found = made_by(alloc, out, cache, maker, number)?;
-        is_right = is_right && made == expected && found == expected;
-    }
-    Ok(is_right)
-}
-
-/// Takes two of three texts out, each in a way of its own.
-fn take_some_out<W: Write>(
-    alloc: Global,
-    out: &mut W,
-    cache: &mut Cached,
-    number: u64,
-) -> Result<()> {
+/// Whether two of three texts are taken out, each in a way of its own, and the third one is left.
+fn are_some_taken_out(notes: &mut Notes, cache: &mut Cached, number: u64) -> bool {
     let removal = match number % 6 {
-        1 => Removal::Remove,
-        2 => Removal::Invalidate,
-        4 => Removal::RemoveBy,
-        5 => Removal::InvalidateBy,
-        _ => return Ok(()),
+        1 => (Removal::Remove, "Cache::remove"),
+        2 => (Removal::Invalidate, "Cache::invalidate"),
+        4 => (Removal::RemoveBy, "Cache::remove_by"),
+        5 => (Removal::InvalidateBy, "Cache::invalidate_by"),
+        _ => return true,
     };
-    let key = text(alloc, "key", number)?;
-    take_out(out, cache, removal, &key, Instant(number))
+    is_taken_out(notes, cache, removal, "key", number)
 }
 
 /// Makes a run, and says what the cache tells then.
-fn run<W: Write>(out: &mut W, cache: &mut Cached, number: u64, is_right: bool) -> Result<()> {
-    let now = Instant(number);
+pub fn run(cache: &mut Cached, now: Instant, is_right: bool, listed: Option<usize>) -> Round {
     let is_more = cache.run_pending_tasks(now, &mut FixedClock(now));
     let told = told_by(cache);
-    writeln!(
-        out,
-        "{number}: right {is_right}, {} entries, more {is_more}, {:?}, {:?}",
-        told.state.entries, told.state.report, told.stats
-    )?;
-    Ok(())
+    Round {
+        is_right,
+        listed,
+        is_more,
+        told,
+    }
 }
 
 /// Makes each call with texts of this number; then a run is made.
-pub fn round<W: Write>(alloc: Global, out: &mut W, cache: &mut Cached, number: u64) -> Result<()> {
-    let is_found = put_and_get(alloc, out, cache, number)?;
-    let is_made = ask_makers(alloc, out, cache, number)?;
-    let is_nothing = is_nothing_made(alloc, cache, number)?;
-    take_some_out(alloc, out, cache, number)?;
-    register(out, cache, Instant(number))?;
-    run(out, cache, number, is_found && is_made && is_nothing)
+pub fn round(notes: &mut Notes, cache: &mut Cached, number: u64) -> Round {
+    let now = Instant(number);
+    let is_got = is_put_and_got(notes, cache, number);
+    let are_taken_out = are_some_taken_out(notes, cache, number);
+    let is_registered = is_registered(notes, cache, now);
+    run(cache, now, is_got && are_taken_out && is_registered, None)
 }

@@ -1,8 +1,8 @@
 //! The synchronous cache, which sends by itself, and whose runs have a batch of their own.
 use super::Subject;
+use crate::config::Config;
 use crate::engines::{CLOCK, engine_of};
 use moka_drive::Cache;
-use moka_engine::CacheConfig;
 use moka_parts::closures::{NoPredicate, NoWeigher};
 use moka_parts::error::OutOfMemory;
 use moka_parts::notification::NoListener;
@@ -18,16 +18,11 @@ pub struct Synchronous<S: BuildHasher> {
 
 impl<S: BuildHasher> Synchronous<S> {
     /// An empty cache at the moment 0.
-    pub fn new(
-        alloc: Global,
-        hasher: S,
-        given: CacheConfig,
-        is_automatic: bool,
-    ) -> Result<Self, OutOfMemory>
+    pub fn new(alloc: Global, hasher: S, config: Config) -> Result<Self, OutOfMemory>
     where
         S: Drop,
     {
-        let engine = engine_of(alloc, hasher, given, is_automatic)?;
+        let engine = engine_of(alloc, hasher, config.plain(), config.is_automatic)?;
         Ok(Synchronous {
             cache: Cache::new(engine),
         })

@@ -1,7 +1,7 @@
 //! The engine with texts.
 use super::Subject;
+use crate::config::Config;
 use crate::engines::{CLOCK, Driven};
-use moka_engine::CacheConfig;
 use moka_parts::closures::NoWeigher;
 use moka_parts::error::OutOfMemory;
 use moka_parts::notification::NoListener;
@@ -11,35 +11,33 @@ use std::hash::BuildHasher;
 
 /// The engine with texts by texts, which were made before: a number tells the one at its place, modulo how many there
 /// are.
-#[derive(Drop)]
 pub struct Texts<S: BuildHasher> {
     driven: Driven<String, String, S, NoExpiry, NoListener, NoWeigher>,
     keys: Vec<String>,
     values: Vec<String>,
 }
 
+// Written out so that an owner's drop is one call.
+impl<S: BuildHasher + Drop> Drop for Texts<S> {
+    fn drop(self) {
+        let Texts {
+            driven: _,
+            keys: _,
+            values: _,
+        } = self;
+    }
+}
+
 impl<S: BuildHasher> Texts<S> {
     /// An empty engine at the moment 0, and so many texts.
-    pub fn new(
-        alloc: Global,
-        hasher: S,
-        given: CacheConfig,
-        is_automatic: bool,
-        count: u64,
-    ) -> Result<Self, OutOfMemory>
+    pub fn new(alloc: Global, hasher: S, config: Config) -> Result<Self, OutOfMemory>
     where
         S: Drop,
     {
-        let keys = make_texts(alloc, "key-", count);
-        let values = make_texts(alloc, "value-", count);
-        let (Ok(keys), Ok(values)) = (keys, values) else {
-            return Err(OutOfMemory);
-        };
-        let driven = Driven::new(alloc, hasher, given, is_automatic)?;
         Ok(Texts {
-            driven,
-            keys,
-            values,
+            keys: make_texts(alloc, "key-", config.texts)?,
+            values: make_texts(alloc, "value-", config.texts)?,
+            driven: Driven::new(alloc, hasher, config.plain(), config.is_automatic)?,
         })
     }
 }
@@ -67,13 +65,11 @@ impl<S: BuildHasher> Subject for Texts<S> {
 
     // The value is the key's own text.
     fn put(&mut self, key: u64, _: u64, now: Instant, may_run: bool) -> Result<bool, OutOfMemory> {
-        match (cloned(&self.keys, key), cloned(&self.values, key)) {
-            (Ok(Some(key)), Ok(Some(value))) => {
-                self.driven.put_and_send(key, value, now, may_run)
-            }
-            (Err(_), _) | (_, Err(_)) => Err(OutOfMemory),
-            _ => Ok(false),
-        }
+        let (Some(key), Some(value)) = (text_at(&self.keys, key), text_at(&self.values, key)) else {
+            return Ok(false);
+        };
+        let (key, value) = (key.clone()?, value.clone()?);
+        self.driven.put_and_send(key, value, now, may_run)
     }
 
     fn run(&mut self, now: Instant, batch: u32) {
@@ -94,14 +90,6 @@ impl<S: BuildHasher> Subject for Texts<S> {
 fn text_at(texts: &Vec<String>, number: u64) -> Option<&String> {
     let place = number.checked_rem(texts.len() as u64)?;
     texts.get(place as usize)
-}
-
-// A clone of the text that a number tells.
-fn cloned(texts: &Vec<String>, number: u64) -> Result<Option<String>, AllocError> {
-    match text_at(texts, number) {
-        Some(text) => Ok(Some(text.clone()?)),
-        None => Ok(None),
-    }
 }
 
 // So many texts.

@@ -106,9 +106,7 @@ impl<X> ExpirationPolicy<X> {
     pub fn is_past_time_to_live(&self, written: Instant, now: Instant) -> bool
         ensures { result ≡ has_passed (deadline self.now.time_to_live written.0) now.0 }
     {
-        self.time_to_live
-            .as_ref()
-            .is_some_and(|span| span.has_passed(written, now))
+        matches!(&self.time_to_live, Some(span) if span.has_passed(written, now))
     }
 
     /// Whether the time to idle of an entry read then is over.
@@ -116,9 +114,7 @@ impl<X> ExpirationPolicy<X> {
     pub fn is_past_time_to_idle(&self, read: Instant, now: Instant) -> bool
         ensures { result ≡ has_passed (deadline self.now.time_to_idle read.0) now.0 }
     {
-        self.time_to_idle
-            .as_ref()
-            .is_some_and(|span| span.has_passed(read, now))
+        matches!(&self.time_to_idle, Some(span) if span.has_passed(read, now))
     }
 
     /// What decides when each entry expires.

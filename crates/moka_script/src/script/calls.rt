@@ -1,7 +1,7 @@
 //! The calls of a script.
 ghost use Rattle.std.specs.Prelude.{◌≡◌, option_map};
 ghost use Rattle.moka_script.specs.Lex.{texts};
-ghost use Rattle.moka_script.specs.Calls.{call_of, call_text, key_and_moment, insert_of, send_of, get_of, peek_of, scan_of, contains_of, key_of, remove_of, invall_of, invif_of, run_of, resize_of, due_of};
+ghost use Rattle.moka_script.specs.Calls.{call_of, call_text, other_call_of, key_and_moment, insert_of, send_of, get_of, peek_of, scan_of, contains_of, key_of, remove_of, invall_of, invif_of, run_of, resize_of, due_of};
 
 use crate::key_range::KeyRange;
 use crate::lex::{alone, lone_number, number, number_or_none, small_number};
@@ -228,24 +228,32 @@ fn resize(arguments: &[&str]) -> Option<ScriptCall>
 pub fn parse_call<'a>(name: &str, arguments: &[&'a str]) -> Option<LineCall<'a>>
     ensures { option_map call_text result ≡ call_of name.now (texts arguments.now) }
 {
-    let call = match name {
-        "insert" => return insert(arguments),
-        "run" => return run(arguments),
-        "send" => send(arguments)?,
-        "get" => get(arguments)?,
-        "peek" => peek(arguments)?,
-        "scan" => scan(arguments)?,
-        "contains" => contains(arguments)?,
-        "key" => key(arguments)?,
-        "remove" => remove(arguments)?,
-        "invall" => invall(arguments)?,
-        "invif" => invif(arguments)?,
-        "resize" => resize(arguments)?,
-        "due" => due(arguments)?,
-        "keys" => alone(Call::Keys { segment: 0 }, arguments)?,
-        "report" => alone(Call::Report, arguments)?,
-        "pending" => alone(Call::Pending, arguments)?,
-        _ => return None,
-    };
-    Some(LineCall::Other(call))
+    match name {
+        "insert" => insert(arguments),
+        "run" => run(arguments),
+        _ => Some(LineCall::Other(parse_other(name, arguments)?)),
+    }
+}
+
+/// The call of that name, if there is one and its value does not stand in the line.
+fn parse_other(name: &str, arguments: &[&str]) -> Option<ScriptCall>
+    ensures { result ≡ other_call_of name.now (texts arguments.now) }
+{
+    match name {
+        "send" => send(arguments),
+        "get" => get(arguments),
+        "peek" => peek(arguments),
+        "scan" => scan(arguments),
+        "contains" => contains(arguments),
+        "key" => key(arguments),
+        "remove" => remove(arguments),
+        "invall" => invall(arguments),
+        "invif" => invif(arguments),
+        "resize" => resize(arguments),
+        "due" => due(arguments),
+        "keys" => alone(Call::Keys { segment: 0 }, arguments),
+        "report" => alone(Call::Report, arguments),
+        "pending" => alone(Call::Pending, arguments),
+        _ => None,
+    }
 }

@@ -4,7 +4,7 @@ ghost use Rattle.std.specs.List.{filter_map, list_all};
 ghost use Rattle.moka_script.specs.Lex.{is_number, number_of, texts, words_of};
 ghost use Rattle.moka_script.specs.Clock.{is_clock, readings_of, told_readings};
 
-use crate::lex::number;
+use crate::lex::{is_word, number};
 use std::alloc::{AllocError, Global};
 
 /// The readings of a clock, which still stand in their line, so that reading it needs no memory.
@@ -37,7 +37,7 @@ impl<'a> Readings<'a> {
 fn are_numbers(line: &str) -> bool
     ensures { result ≡ list_all is_number (drop 1 (words_of line.now)) }
 {
-    let mut words = line.split(' ').filter(|word| !word.is_empty()).skip(1);
+    let mut words = line.split(' ').filter(is_word).skip(1);
     words.all(|word| number(word).is_some())
 }
 
@@ -45,7 +45,7 @@ fn are_numbers(line: &str) -> bool
 fn numbers_of(alloc: Global, line: &str) -> Result<Vec<u64>, AllocError>
     ensures { IfOk result (λ numbers. numbers.items ≡ filter_map (number_of 64) (drop 1 (words_of line.now))) }
 {
-    let words = line.split(' ').filter(|word| !word.is_empty()).skip(1);
+    let words = line.split(' ').filter(is_word).skip(1);
     words.filter_map(number).collect(alloc)
 }
 

@@ -189,18 +189,16 @@ pub fn parse_setting(name: &str, arguments: &[&str]) -> Option<Setting>
     ensures { result ≡ setting_of name.now (texts arguments.now) }
 {
     match name {
-        "first" => lone_number(arguments)
-            .and_then(FirstTicket::new)
-            .map(Setting::First),
-        "capacity" => lone_number(arguments).map(Setting::Capacity),
+        "first" => Some(Setting::First(FirstTicket::new(lone_number(arguments)?)?)),
+        "capacity" => Some(Setting::Capacity(lone_number(arguments)?)),
         "policy" => policy(arguments),
-        "ttl" => lone_number(arguments).map(Setting::TimeToLive),
-        "tti" => lone_number(arguments).map(Setting::TimeToIdle),
+        "ttl" => Some(Setting::TimeToLive(lone_number(arguments)?)),
+        "tti" => Some(Setting::TimeToIdle(lone_number(arguments)?)),
         "weigh" => alone(Setting::Weigh(NumberWeigher), arguments),
         "listener" => alone(Setting::Listener, arguments),
         "invalidator" => alone(Setting::Invalidator, arguments),
         "ids" => ids(arguments),
-        "start" => lone_number(arguments).map(Setting::Start),
+        "start" => Some(Setting::Start(lone_number(arguments)?)),
         "keeper" => keeper(arguments),
         "auto" => alone(Setting::Auto, arguments),
         _ => None,

@@ -17,9 +17,15 @@ use std::mem;
 /// A row of the table but for the cold part of its record, or a vacant place with the next one. A row has a record,
 /// until it leaves the map; a membership, while it is a member, whose weight lies with the cold part; and a slot among
 /// the timers, while it has one.
-#[derive(Drop)]
 pub(crate) struct Slot<K, V> {
     state: State<K, V>,
+}
+
+// Written out so that an owner's drop is one call.
+impl<K: Drop, V: Drop> Drop for Slot<K, V> {
+    fn drop(self) {
+        let Slot { state: _ } = self;
+    }
 }
 
 // With keys and values of a word each, a line of memory, of which the first 48 bytes are what look-ups read, the

@@ -446,8 +446,7 @@ impl<
         now: Instant,
     ) -> Result<Self, OutOfMemory>
     {
-        let engine = config.build(alloc, now)?;
-        Ok(Cache::new(engine))
+        Cache::build_with_hasher(config, alloc, DefaultHasher::default(), now)
     }
 }
 

@@ -99,7 +99,7 @@ impl<
         K: Clone,
         V: Clone,
     {
-        let hash = self.engine().hash(&key);
+        let hash = self.hash_of(&key);
         let Ok(seen) = self.get_hashed(&key, hash, now, clock) else {
             return Err(GetWithRefused::Lookup(key));
         };
@@ -126,7 +126,7 @@ impl<
         K: Clone,
         V: Clone,
     {
-        let hash = self.engine().hash(&key);
+        let hash = self.hash_of(&key);
         let Ok(seen) = self.get_hashed(&key, hash, now, clock) else {
             return Err(ComputeRefused::Lookup(key));
         };

@@ -79,15 +79,18 @@ fn make<
 ) -> Reply<K, V, P>
 {
     match call {
-        Call::Insert { key, value, .. } if cache.is_map_disabled() => {
-            Reply::Disabled { key, value }
-        }
         Call::Insert {
             key,
             hash,
             value,
             now,
-        } => Reply::Insert(cache.do_insert_with_hash(key, hash, value, now)),
+        } => {
+            if cache.is_map_disabled() {
+                Reply::Disabled { key, value }
+            } else {
+                Reply::Insert(cache.do_insert_with_hash(key, hash, value, now))
+            }
+        }
         Call::Send { ticket } => Reply::Send(cache.send(ticket)),
         Call::Get {
             key,

@@ -53,7 +53,7 @@ impl<
         K: Clone,
         V: Clone,
     {
-        let hash = self.engine().hash(&key);
+        let hash = self.hash_of(&key);
         match self.get_hashed(&key, hash, now, clock) {
             Ok(Some(value)) => return Ok(found(key, value)),
             Ok(None) => {}
@@ -122,7 +122,7 @@ impl<
         K: Clone,
         V: Clone,
     {
-        let hash = self.engine().hash(&key);
+        let hash = self.hash_of(&key);
         match self.get_hashed(&key, hash, now, clock) {
             Ok(Some(value)) => return Ok(Ok(found(key, value))),
             Ok(None) => {}

@@ -62,7 +62,7 @@ impl Pass {
         let by_moment = u64::from(due) + u64::from(by_write.removed) + u64::from(by_read.removed);
         Pass {
             removed: by_moment + u64::from(surplus.removed),
-            has_more: by_write.has_more | by_read.has_more | surplus.has_more,
+            has_more: by_write.has_more || by_read.has_more || surplus.has_more,
             scan_has_more,
         }
     }

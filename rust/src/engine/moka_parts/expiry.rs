@@ -11,28 +11,28 @@ use crate::support::time::Duration;
 /// moka: `sync::base_cache::is_expired_by_per_entry_ttl`.
 pub fn is_expired_by_per_entry_ttl(expires: Option<Instant>, now: Instant) -> bool
 {
-    expires.is_some_and(|moment| moment <= now)
+    matches!(expires, Some(moment) if moment <= now)
 }
 
 /// Whether the time to live of an entry written then is over.
 /// moka: `sync::base_cache::is_expired_by_ttl`.
 pub fn is_expired_by_ttl(time_to_live: Option<Duration>, written: Instant, now: Instant) -> bool
 {
-    time_to_live.is_some_and(|duration| written.saturating_add(duration) <= now)
+    is_expired_by_per_entry_ttl(deadline_of(time_to_live, written), now)
 }
 
 /// Whether the time to idle of an entry read then is over.
 /// moka: `sync::base_cache::is_expired_by_tti`.
 pub fn is_expired_by_tti(time_to_idle: Option<Duration>, read: Instant, now: Instant) -> bool
 {
-    time_to_idle.is_some_and(|duration| read.saturating_add(duration) <= now)
+    is_expired_by_per_entry_ttl(deadline_of(time_to_idle, read), now)
 }
 
 /// Whether a moment lies before the one from which entries are valid, if that is set.
 /// moka: `sync::base_cache::is_invalid_entry`.
 pub fn is_invalid_entry(valid_after: Option<Instant>, moment: Instant) -> bool
 {
-    valid_after.is_some_and(|bound| moment < bound)
+    matches!(valid_after, Some(bound) if moment < bound)
 }
 
 /// Whether one of the tests by moments hides a record, whatever predicates say.
@@ -54,7 +54,7 @@ pub fn has_lapsed<K, V, X>(
 /// The moment that lies a duration later, if one is given.
 pub fn deadline_of(duration: Option<Duration>, moment: Instant) -> Option<Instant>
 {
-    duration.map(|duration| moment.saturating_add(duration))
+    Some(moment.saturating_add(duration?))
 }
 
 /// The earlier of two moments, as far as they are given.
@@ -81,7 +81,8 @@ pub fn remaining(
         deadline_of(time_to_live, written),
         deadline_of(time_to_idle, read),
     );
-    earlier(expires, by_policy).map(|moment| moment.saturating_duration_since(now))
+    let moment = earlier(expires, by_policy)?;
+    Some(moment.saturating_duration_since(now))
 }
 
 /// When an entry expires after an expiry's answer at a moment, and whether that is a change: an
@@ -93,7 +94,10 @@ pub fn renewed(
     now: Instant,
 ) -> (Option<Instant>, bool)
 {
-    let is_same = answer.map(|time| time.as_nanos()) == left.map(|time| time.as_nanos());
+    let is_same = match (answer, left) {
+        (Some(answer), Some(left)) => answer.as_nanos() == left.as_nanos(),
+        (answer, left) => answer.is_none() && left.is_none(),
+    };
     if is_same {
         (expires, false)
     } else {

@@ -117,9 +117,7 @@ impl<P> Invalidator<P> {
     where
         P: PredicateFn<K, V>,
     {
-        self.predicates
-            .iter()
-            .any(|registered| registered.covers(entry))
+        self.first_covering(entry).is_some()
     }
 
     /// The identifier of the first predicate that covers the record, if one does.
@@ -127,11 +125,12 @@ impl<P> Invalidator<P> {
     where
         P: PredicateFn<K, V>,
     {
-        let found = self
-            .predicates
-            .iter()
-            .find(|registered| registered.covers(entry))?;
-        Some(found.id)
+        for registered in &self.predicates {
+            if registered.covers(entry) {
+                return Some(registered.id);
+            }
+        }
+        None
     }
 
     /// Whether the predicate at this place covers the record.

@@ -117,10 +117,10 @@ impl Default for EvictionPolicy {
 impl fmt::Debug for EvictionPolicy {
 
     fn fmt(&self, f: &mut fmt::Formatter<'_>) -> fmt::Result {
-        match self {
-            EvictionPolicy::TinyLfu => write!(f, "EvictionPolicy::TinyLfu"),
-            EvictionPolicy::Lru => write!(f, "EvictionPolicy::Lru"),
-        }
+        f.write_str(match self {
+            EvictionPolicy::TinyLfu => "EvictionPolicy::TinyLfu",
+            EvictionPolicy::Lru => "EvictionPolicy::Lru",
+        })
     }
 }
 

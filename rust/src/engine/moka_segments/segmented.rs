@@ -97,8 +97,7 @@ impl<
     ) -> Result<(), InsertRefused<K, V>>
     {
         let index = self.router.segment_of(&key);
-        let segment = &mut self.segments[index];
-        segment.insert(key, value, now, clock)
+        self.segments[index].insert(key, value, now, clock)
     }
 
     /// A clone of a key's value, if the key is there and visible at the moment `now`. The read is queued.
@@ -116,8 +115,7 @@ impl<
         V: Clone,
     {
         let index = self.router.segment_of(key);
-        let segment = &mut self.segments[index];
-        segment.get(key, now, clock)
+        self.segments[index].get(key, now, clock)
     }
 
     /// Takes a key out, and hands its value out, expired or not. The listener, if one is set, is notified.
@@ -136,8 +134,7 @@ impl<
         V: Clone,
     {
         let index = self.router.segment_of(key);
-        let segment = &mut self.segments[index];
-        segment.remove(key, now, clock)
+        self.segments[index].remove(key, now, clock)
     }
 
     /// As `remove`, without the value.
@@ -155,8 +152,7 @@ impl<
         V: Clone,
     {
         let index = self.router.segment_of(key);
-        let segment = &mut self.segments[index];
-        segment.invalidate(key, now, clock)
+        self.segments[index].invalidate(key, now, clock)
     }
 
     /// A clone of a key's value, if the key is there and visible at the moment `now`, and else the value that `init`

@@ -7,8 +7,10 @@ mod cache;
 #[cfg(test)]
 mod entry;
 #[cfg(test)]
-mod equal;
+mod predicates;
 #[cfg(test)]
 mod saves;
 #[cfg(test)]
 mod segments;
+#[cfg(test)]
+mod timed;

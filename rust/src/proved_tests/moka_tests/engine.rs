@@ -3,11 +3,16 @@
 use crate::support::prelude::*;
 #[cfg(test)]
 use crate::support::test::prelude::*;
-use crate::engine::moka_engine::{Engine, Expiry, Instant, Listener, NoPredicate, Weigher};
+use crate::engine::moka_engine::{Engine, Expiry, Instant, Listener, PredicateFn, Weigher};
+use crate::support::hash::Hash;
 use crate::support::test::test::Fail;
 
 mod base_cache;
 mod config;
+mod drops;
+mod expiry;
+mod keys;
+mod sizes;
 
 /// What an entry weighs is its key.
 struct ByKey;
@@ -21,15 +26,24 @@ impl<V> Weigher<u64, V> for ByKey {
 }
 
 /// Inserts an entry, sends its operation, and gives the number of the operation's ticket.
-fn settle<V, X: Expiry<u64, V>, L: Listener<u64, V>, W: Weigher<u64, V>>(
-    cache: &mut Engine<u64, V, X, L, NoPredicate, W>,
-    key: u64,
+fn settle<
+    K: Eq + Hash,
+    V,
+    X: Expiry<K, V>,
+    L: Listener<K, V>,
+    P: PredicateFn<K, V>,
+    W: Weigher<K, V>,
+>(
+    cache: &mut Engine<K, V, X, L, P, W>,
+    key: K,
+    hash: u64,
     value: V,
+    now: Instant,
 ) -> Result<u64, Fail> {
     if cache.is_map_disabled() {
         return Err("disabled".into());
     }
-    let Ok((ticket, _)) = cache.do_insert_with_hash(key, key, value, Instant(0)) else {
+    let Ok((ticket, _)) = cache.do_insert_with_hash(key, hash, value, now) else {
         return Err("refused".into());
     };
     match cache.send(ticket) {

@@ -6,25 +6,37 @@ use crate::support::test::prelude::*;
 use crate::engine::moka_drive::Cache;
 use crate::engine::moka_engine::{CacheConfig, FixedClock, Instant};
 use crate::proved_tests::moka_uses::batches::{ask, drop_all, load};
+use crate::support::alloc::Global;
+use crate::support::test::process::Abort;
 use crate::support::test::test::Fail;
+
+const NOW: Instant = Instant(0);
+
+/// What is found of keys 1 to 4.
+fn found(alloc: Global, cache: &mut Cache<u64, u64>) -> Result<Vec<Option<u64>>, Fail> {
+    match ask(alloc, cache, &[1, 2, 3, 4], NOW, &mut FixedClock(NOW)) {
+        Ok(found) => Ok(found),
+        Err(_) => Err("memory".into()),
+    }
+}
+
+fn check(rt: &impl Abort, alloc: Global, cache: &mut Cache<u64, u64>) -> Result<(), Fail> {
+    let clock = &mut FixedClock(NOW);
+    let rows = crate::support::vec::Vec::from_array(alloc, [(1, 10), (2, 20), (3, 30)])?;
+    assert!( load(cache, rows, NOW, clock).is_ok());
+    let all = found(alloc, cache)?;
+    assert!( matches!(all.as_slice(), [Some(10), Some(20), Some(30), None]));
+    assert!( drop_all(cache, &[1, 2], NOW, clock).is_ok());
+    let left = found(alloc, cache)?;
+    assert!( matches!(left.as_slice(), [None, None, Some(30), None]));
+    Ok(())
+}
 
 #[test]
 fn loads_asks_and_drops() -> Result<(), Fail> {
     let rt = HostRuntime;
-    let (now, mut clock) = (Instant(0), FixedClock(Instant(0)));
-    let Ok(mut cache) = Cache::build(CacheConfig::default(), rt.alloc(), now) else {
+    let Ok(mut cache) = Cache::build(CacheConfig::default(), rt.alloc(), NOW) else {
         return Err("memory".into());
     };
-    let rows = crate::support::vec::Vec::from_array(rt.alloc(), [(1_u64, 10_u64), (2, 20), (3, 30)])?;
-    assert!( load(&mut cache, rows, now, &mut clock).is_ok());
-    let Ok(found) = ask(rt.alloc(), &mut cache, &[3, 4, 1], now, &mut clock) else {
-        return Err("memory".into());
-    };
-    assert!( matches!(found.as_slice(), [Some(30), None, Some(10)]));
-    assert!( drop_all(&mut cache, &[1, 2], now, &mut clock).is_ok());
-    let Ok(left) = ask(rt.alloc(), &mut cache, &[1, 2, 3], now, &mut clock) else {
-        return Err("memory".into());
-    };
-    assert!( matches!(left.as_slice(), [None, None, Some(30)]));
-    Ok(())
+    check(&rt, rt.alloc(), &mut cache)
 }

@@ -7,12 +7,13 @@ use crate::proved_tests::moka_uses_tests::equal::assert_equal;
 use crate::support::anyhow::Result;
 use crate::engine::moka_drive::Cache;
 use crate::engine::moka_engine::{
-    CacheConfig, FixedClock, InsertError, Instant, NoExpiry, NoPredicate, OutOfMemory,
+    CacheConfig, FixedClock, InsertError, Instant, NoExpiry, NoListener, NoPredicate, OutOfMemory,
 };
 use crate::proved_tests::moka_uses::handled::{hide, put, resize, take, value_or_made};
 use crate::proved_tests::moka_uses::invalidated::CountedIds;
 use crate::proved_tests::moka_uses::notified::Counter;
-use crate::support::alloc::AllocError;
+use crate::support::alloc::{AllocError, Global};
+use crate::support::test::process::Abort;
 
 const NOW: Instant = Instant(0);
 
@@ -28,47 +29,73 @@ impl Clone for Unique {
     }
 }
 
+fn check_taken(rt: &impl Abort, told: &mut Cache<u64, Unique, NoExpiry, Counter>) -> Result<()> {
+    told.insert(1, Unique(10), NOW, &mut FixedClock(NOW))?;
+    for value in [Some(10), None] {
+        let taken = take(told, 1, NOW, &mut FixedClock(NOW));
+        assert_equal(rt, taken.map(|it| it.0), value);
+    }
+    assert!( matches!(told.engine().listener(), Some(Counter { count: 0 })));
+    Ok(())
+}
+
+#[test]
+fn takes_what_cannot_be_cloned() -> Result<()> {
+    let rt = HostRuntime;
+    let config = CacheConfig::default().eviction_listener(Counter { count: 0 });
+    check_taken(&rt, &mut Cache::build(config, rt.alloc(), NOW)?)
+}
+
+fn check_made(rt: &impl Abort, cache: &mut Cache<u64, Unique>) -> Result<()> {
+    let clock = &mut FixedClock(NOW);
+    let made = value_or_made(cache, 1, || Unique(10), NOW, clock);
+    assert_equal(rt, made, Ok(Unique(10)));
+    cache.insert(1, Unique(11), NOW, clock)?;
+    let refused = value_or_made(cache, 1, || Unique(12), NOW, clock);
+    assert_equal(rt, refused, Err(OutOfMemory));
+    Ok(())
+}
+
 #[test]
 fn hands_out_what_cannot_be_cloned() -> Result<()> {
     let rt = HostRuntime;
-    let clock = &mut FixedClock(NOW);
-    let config = CacheConfig::default().eviction_listener(Counter { count: 0 });
-    let mut told: Cache<u64, Unique, NoExpiry, Counter> = Cache::build(config, rt.alloc(), NOW)?;
-    told.insert(1, Unique(10), NOW, clock)?;
-    assert_equal(&rt, take(&mut told, 1, NOW, clock), Some(Unique(10)));
-    assert_equal(&rt, take(&mut told, 1, NOW, clock), None);
-    assert_equal(&rt, told.engine().listener(), Some(&Counter { count: 0 }));
+    check_made(
+        &rt,
+        &mut Cache::build(CacheConfig::default(), rt.alloc(), NOW)?,
+    )
+}
 
-    let config = CacheConfig::default();
-    let mut cache: Cache<u64, Unique> = Cache::build(config, rt.alloc(), NOW)?;
-    let made = value_or_made(&mut cache, 1, || Unique(10), NOW, clock);
-    assert_equal(&rt, made, Ok(Unique(10)));
-    cache.insert(1, Unique(11), NOW, clock)?;
-    let refused = value_or_made(&mut cache, 1, || Unique(12), NOW, clock);
-    assert_equal(&rt, refused, Err(OutOfMemory));
+/// A cache of numbers.
+fn built(
+    alloc: Global,
+    config: CacheConfig<NoExpiry, NoListener, NoPredicate>,
+) -> Result<Cache<u64, u64>> {
+    Ok(Cache::build(config, alloc, NOW)?)
+}
+
+fn check_refused(rt: &impl Abort, cache: &mut Cache<u64, u64>) {
+    let refused = put(cache, 1, 10, NOW, &mut FixedClock(NOW)).err();
+    let back = refused.map(|refused| (refused.error, refused.key, refused.value));
+    assert_equal(rt, back, Some((InsertError::NumbersUsedUp, 1, 10)));
+    assert_equal(rt, (resize(cache, 0), resize(cache, 8)), (1, 8));
+}
+
+fn check_hidden(rt: &impl Abort, cache: &mut Cache<u64, u64>) -> Result<()> {
+    cache.insert(1, 10, NOW, &mut FixedClock(NOW))?;
+    let hidden = hide(cache, NoPredicate, Instant(1), &mut CountedIds(0));
+    assert!( hidden.is_none() && !cache.contains_key(&1, Instant(1)));
     Ok(())
 }
 
 #[test]
 fn does_the_next_best() -> Result<()> {
     let rt = HostRuntime;
-    let clock = &mut FixedClock(NOW);
-    let config = CacheConfig::default()
+    let numbered = CacheConfig::default()
         .max_capacity(4)
         .first_ticket(u64::MAX);
-    let mut cache: Cache<u64, u64> = Cache::build(config, rt.alloc(), NOW)?;
-    let refused = put(&mut cache, 1, 10, NOW, clock).err();
-    let back = refused.map(|refused| (refused.error, refused.key, refused.value));
-    assert_equal(&rt, back, Some((InsertError::NumbersUsedUp, 1, 10)));
-    assert_equal(&rt, (resize(&mut cache, 0), resize(&mut cache, 8)), (1, 8));
-
-    let mut cache: Cache<u64, u64> = Cache::build(CacheConfig::default(), rt.alloc(), NOW)?;
-    cache.insert(1, 10, NOW, clock)?;
-    let hidden = hide(&mut cache, NoPredicate, Instant(1), &mut CountedIds(0));
-    assert!( hidden.is_none() && !cache.contains_key(&1, Instant(1)));
-
-    let config = CacheConfig::default().max_capacity(0);
-    let mut cache: Cache<u64, u64> = Cache::build(config, rt.alloc(), NOW)?;
-    assert_equal(&rt, resize(&mut cache, 8), 0);
+    check_refused(&rt, &mut built(rt.alloc(), numbered)?);
+    check_hidden(&rt, &mut built(rt.alloc(), CacheConfig::default())?)?;
+    let disabled = CacheConfig::default().max_capacity(0);
+    assert_equal(&rt, resize(&mut built(rt.alloc(), disabled)?, 8), 0);
     Ok(())
 }

@@ -7,9 +7,39 @@ use crate::proved_tests::moka_uses_tests::equal::assert_equal;
 use crate::support::anyhow::Result;
 use crate::engine::moka_engine::{CacheConfig, Instant, PredicateError};
 use crate::proved_tests::moka_uses::invalidated::{Below, CountedIds, Numbers, hide_below, run_after_hiding};
+use crate::support::test::process::Abort;
 
-fn has(numbers: &Numbers, key: u64) -> bool {
-    numbers.contains_key_with_hash(&key, numbers.hash(&key), Instant(1))
+/// Puts 9 under the key 1, and 10 under the key 2.
+fn fill(numbers: &mut Numbers) -> Result<()> {
+    for (key, value) in [(1, 9), (2, 10)] {
+        if !numbers.is_map_disabled() {
+            let hash = numbers.hash(&key);
+            numbers.do_insert_with_hash(key, hash, value, Instant(0))?;
+        }
+    }
+    Ok(())
+}
+
+/// Only the key 2 is there.
+fn check_hidden(rt: &impl Abort, numbers: &Numbers) {
+    for (key, is_there) in [(1, false), (2, true)] {
+        let found = numbers.contains_key_with_hash(&key, numbers.hash(&key), Instant(1));
+        assert_equal(rt, (key, found), (key, is_there));
+    }
+}
+
+fn check(rt: &impl Abort, numbers: &mut Numbers) -> Result<()> {
+    fill(numbers)?;
+    let mut ids = CountedIds(u128::MAX);
+    hide_below(numbers, 10, Instant(0), &mut ids)?;
+    check_hidden(rt, numbers);
+    let refused = hide_below(numbers, 11, Instant(0), &mut ids).err();
+    let back = refused.map(|refused| (refused.error, refused.predicate));
+    assert_equal(rt, back, Some((PredicateError::NoFreeId, Below(11))));
+    check_hidden(rt, numbers);
+    run_after_hiding(numbers, Instant(0));
+    check_hidden(rt, numbers);
+    Ok(())
 }
 
 #[test]
@@ -17,21 +47,5 @@ fn hides_what_lies_below() -> Result<()> {
     let rt = HostRuntime;
     let config = CacheConfig::default().support_invalidation_closures::<Below>();
     let mut numbers: Numbers = config.build(rt.alloc(), Instant(0))?;
-    for (key, value) in [(1, 9), (2, 10)] {
-        if !numbers.is_map_disabled() {
-            let hash = numbers.hash(&key);
-            numbers.do_insert_with_hash(key, hash, value, Instant(0))?;
-        }
-    }
-    let mut ids = CountedIds(u128::MAX);
-    hide_below(&mut numbers, 10, Instant(0), &mut ids)?;
-    assert_equal(&rt, (has(&numbers, 1), has(&numbers, 2)), (false, true));
-
-    let refused = hide_below(&mut numbers, 11, Instant(0), &mut ids).err();
-    let back = refused.map(|refused| (refused.error, refused.predicate));
-    assert_equal(&rt, back, Some((PredicateError::NoFreeId, Below(11))));
-    assert!( has(&numbers, 2));
-    run_after_hiding(&mut numbers, Instant(0));
-    assert_equal(&rt, (has(&numbers, 1), has(&numbers, 2)), (false, true));
-    Ok(())
+    check(&rt, &mut numbers)
 }

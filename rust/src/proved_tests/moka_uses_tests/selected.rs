@@ -8,15 +8,20 @@ use crate::support::anyhow::Result;
 use crate::engine::moka_drive::Cache;
 use crate::engine::moka_engine::{CacheConfig, FixedClock, Instant};
 use crate::proved_tests::moka_uses::selected::put_if_absent;
+use crate::support::test::process::Abort;
+
+fn check(rt: &impl Abort, cache: &mut Cache<u64, u64>) -> Result<()> {
+    let now = Instant(0);
+    for (value, is_fresh) in [(10, true), (20, false)] {
+        let entry = put_if_absent(cache, 1, value, now, &mut FixedClock(now))?;
+        assert_equal(rt, (entry.value, entry.is_fresh), (10, is_fresh));
+    }
+    Ok(())
+}
 
 #[test]
 fn puts_only_the_first() -> Result<()> {
     let rt = HostRuntime;
-    let (now, mut clock) = (Instant(0), FixedClock(Instant(0)));
-    let mut cache: Cache<u64, u64> = Cache::build(CacheConfig::default(), rt.alloc(), now)?;
-    let first = put_if_absent(&mut cache, 1, 10, now, &mut clock)?;
-    assert_equal(&rt, (first.value, first.is_fresh), (10, true));
-    let second = put_if_absent(&mut cache, 1, 20, now, &mut clock)?;
-    assert_equal(&rt, (second.value, second.is_fresh), (10, false));
-    Ok(())
+    let mut cache = Cache::build(CacheConfig::default(), rt.alloc(), Instant(0))?;
+    check(&rt, &mut cache)
 }

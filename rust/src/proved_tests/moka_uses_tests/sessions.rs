@@ -7,21 +7,26 @@ use crate::proved_tests::moka_uses_tests::equal::assert_equal;
 use crate::support::anyhow::Result;
 use crate::engine::moka_engine::Instant;
 use crate::proved_tests::moka_timed::ManualClock;
-use crate::proved_tests::moka_uses::sessions::{log_in, log_out, start, touch};
+use crate::proved_tests::moka_uses::sessions::{Sessions, log_in, log_out, start, touch};
+use crate::support::test::process::Abort;
 use crate::support::time::Duration;
+
+fn check(rt: &impl Abort, sessions: &mut Sessions<ManualClock>) -> Result<()> {
+    log_in(sessions, 1, 10)?;
+    for (later, token) in [(99, Some(10)), (99, Some(10)), (100, None)] {
+        sessions.clock.advance(Duration::from_nanos(later));
+        assert_equal(rt, touch(sessions, 1)?, token);
+    }
+    log_in(sessions, 2, 20)?;
+    assert_equal(rt, log_out(sessions, 2), Some(20));
+    assert_equal(rt, touch(sessions, 2)?, None);
+    Ok(())
+}
 
 #[test]
 fn lasts_while_it_is_used() -> Result<()> {
     let rt = HostRuntime;
     let clock = ManualClock { now: Instant(0) };
     let mut sessions = start(rt.alloc(), Duration::from_nanos(100), clock)?;
-    log_in(&mut sessions, 1, 10)?;
-    for (later, token) in [(99, Some(10)), (99, Some(10)), (100, None)] {
-        sessions.clock.advance(Duration::from_nanos(later));
-        assert_equal(&rt, touch(&mut sessions, 1)?, token);
-    }
-    log_in(&mut sessions, 2, 20)?;
-    assert_equal(&rt, log_out(&mut sessions, 2), Some(20));
-    assert_equal(&rt, touch(&mut sessions, 2)?, None);
-    Ok(())
+    check(&rt, &mut sessions)
 }

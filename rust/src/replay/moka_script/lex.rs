@@ -51,8 +51,14 @@ pub fn number_or_none(word: &str) -> Option<Option<u64>>
 {
     match word {
         "none" => Some(None),
-        _ => number(word).map(Some),
+        _ => Some(Some(number(word)?)),
     }
+}
+
+/// Tells whether something stands between two spaces.
+pub fn is_word(word: &&str) -> bool
+{
+    !word.is_empty()
 }
 
 /// What stands between the spaces of a text: its first words, and how many of these there are.
@@ -60,7 +66,7 @@ pub fn first_words(text: &str) -> ([&str; MOST_WORDS], usize)
 {
     let mut words = [""; MOST_WORDS];
     let mut count = 0;
-    let all = text.split(' ').filter(|word| !word.is_empty());
+    let all = text.split(' ').filter(is_word);
     for word in all.take(MOST_WORDS) {
         words[count] = word;
         count += 1;

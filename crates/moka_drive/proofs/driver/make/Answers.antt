@@ -11,8 +11,8 @@ use Rattle.moka_drive.proofs.Quiet.{keys_step, pending_step}
 use Rattle.moka_drive.proofs.Waiting.{get_alike}
 use Rattle.moka_drive.proofs.driver.make.Goals as goal
 
-pub returns-in-Insert : goal.returns-in-Insert
-returns-in-Insert g c =
+pub returns-then-is_map_disabled : goal.returns-then-is_map_disabled
+returns-then-is_map_disabled g c =
     rw c.in-Insert.is (no_events, (sym c.is_map_disabled.ensures ∙ c.if-is_map_disabled.true, refl, refl, (refl, refl)), nothing_befalls g.L.Listener.tells c.args.cache.now, (refl, refl))
 
 pub returns-in-Get : goal.returns-in-Get

@@ -14,3 +14,12 @@ returns-clause-idle g c = λ none.
 
 pub returns-then-not-is_taken-clause-upkeep : goal.returns-then-not-is_taken-clause-upkeep
 returns-then-not-is_taken-clause-upkeep g c = untimed-none c.args.store.now
+
+pub returns-then-not-is_taken-clause-idle : goal.returns-then-not-is_taken-clause-idle
+returns-then-not-is_taken-clause-idle g c = λ none. sym (sym c.is_taken.ensures ∙ c.if-not-is_taken.true)
+
+pub returns-clause-swept : goal.returns-clause-swept
+returns-clause-swept g c = rw c.read_ahead.ensures at c.sweep_along.ensures.swept
+
+pub returns-clause-upkeep : goal.returns-clause-upkeep
+returns-clause-upkeep g c = rw c.read_ahead.ensures at c.sweep_along.ensures.upkeep

@@ -1,6 +1,7 @@
-use Rattle.std.proofs.Common.{◌≡◌, true, false, inr, refl, sym, ap, ◌∙◌}
+use Rattle.std.proofs.Common.{◌≡◌, true, false, Some, inl, inr, refl, sym, ap, subst, ◌∙◌}
 use Rattle.std.specs.Option.{option_map_or}
 use Rattle.moka_parts.specs.Records.{is_applied, is_settled}
+use Rattle.moka_parts.specs.Visibility.{NoneCovers}
 use Rattle.moka_maintenance.proofs.Fronts.{settled_member}
 use Rattle.moka_maintenance.proofs.scan.look_at.Goals as goal
 
@@ -18,3 +19,24 @@ returns-then-apply_predicates g c =
         c.expel.ensures,
       ),
     )
+
+pub returns-in_default : goal.returns-in_default
+returns-in_default g c = (ap (λ o. option_map_or is_applied o false) (sym (c.in_default.ensures.found c.requires.placed)), refl, refl)
+
+pub returns-then-not-is_settled : goal.returns-then-not-is_settled
+returns-then-not-is_settled g c =
+    (ap (λ o. option_map_or is_applied o false) (sym (c.in-Some.ensures.found c.requires.placed)) ∙ (sym c.is_settled.ensures ∙ c.if-not-is_settled.true), refl, refl)
+
+pub returns-else-apply_predicates : goal.returns-else-apply_predicates
+returns-else-apply_predicates g c =
+    let found = sym (c.in-Some.ensures.found c.requires.placed) in (
+      ap (λ o. option_map_or is_applied o false) found ∙ (sym c.is_settled.ensures ∙ c.if-not-is_settled.false),
+      inl (
+        refl,
+        refl,
+        λ r is. (let there : Some c.in-Some.found ≡ Some r = sym found ∙ is in let same : c.in-Some.found ≡ r = cc in subst (NoneCovers g.P.PredicateFn.says c.args.invalidator.now) same c.if-apply_predicates.ensures),
+      ),
+    )
+
+pub expel-requires : goal.expel-requires
+expel-requires g c = c.in-Some.ensures.handle refl

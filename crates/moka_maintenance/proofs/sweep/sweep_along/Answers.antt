@@ -46,3 +46,30 @@ returns-in-Ended-clause-left g c = λ used. (let most = c.loop-turns.invariant.s
 
 pub returns-clause-left : goal.returns-clause-left
 returns-clause-left g c = sweeping-all g.L.Listener.tells c.args.tests c.args.sweep c.args.batch _ _ _ _ _ _ _ _ c.loop-turns.invariant.sweeping
+
+pub overflow_sub-turns : goal.overflow_sub-turns
+overflow_sub-turns g c = let some = c.loop-turns-test.true in omega arith
+
+pub overflow_add-removed : goal.overflow_add-removed
+overflow_add-removed g c = let some = c.loop-turns-test.true in let most = c.loop-turns.invariant.sweeping.most in omega arith
+
+pub overflow_add-passed : goal.overflow_add-passed
+overflow_add-passed g c = let some = c.loop-turns-test.true in let few = c.loop-turns.invariant.sweeping.few in omega arith
+
+pub nonzero_rem-turns : goal.nonzero_rem-turns
+nonzero_rem-turns g c = omega arith
+
+pub loop-turns-smaller-in-Removed : goal.loop-turns-smaller-in-Removed
+loop-turns-smaller-in-Removed g c = let some = c.loop-turns-test.true in omega arith
+
+pub loop-turns-smaller-then-passed-member_count : goal.loop-turns-smaller-then-passed-member_count
+loop-turns-smaller-then-passed-member_count g c = let some = c.loop-turns-test.true in omega arith
+
+pub loop-turns-smaller : goal.loop-turns-smaller
+loop-turns-smaller g c = let some = c.loop-turns-test.true in omega arith
+
+pub returns-in-Ended-clause-upkeep : goal.returns-in-Ended-clause-upkeep
+returns-in-Ended-clause-upkeep g c = untimed-on c.args.store.now c.loop-turns.store c.take_turn.new.store c.loop-turns.invariant.upkeep c.in-Ended.ensures.upkeep
+
+pub returns-clause-upkeep : goal.returns-clause-upkeep
+returns-clause-upkeep g c = c.loop-turns.invariant.upkeep

@@ -1,7 +1,7 @@
 use Rattle.std.proofs.Common.{ap, refl, sym, ◌∙◌}
 use Rattle.moka_maintenance.specs.Steps.{stock_in}
 use Rattle.moka_maintenance.proofs.Fronts.{settled_member}
-use Rattle.moka_maintenance.proofs.Upkeep.{untimed-moved}
+use Rattle.moka_maintenance.proofs.Upkeep.{untimed-none, untimed-moved}
 use Rattle.moka_maintenance.proofs.sweep.take_turn.Goals as goal
 
 pub returns-clause-turn : goal.returns-clause-turn
@@ -27,3 +27,21 @@ returns-then-not-is_settled-clause-turn g c =
     let front = c.in-Some.ensures in
     let unsettled = sym c.is_settled.ensures ∙ c.if-not-is_settled.true in
     (c.in-Some.handle.number, (front.1, (front.0.member, unsettled)), ap stock_in c.move_to_back.ensures.step, refl)
+
+pub returns-in_default-clause-turn : goal.returns-in_default-clause-turn
+returns-in_default-clause-turn g c = (c.in_default.ensures.0, (λ n next. absurd (c.in_default.ensures.1 n next)), refl, refl)
+
+pub returns-in_default-clause-upkeep : goal.returns-in_default-clause-upkeep
+returns-in_default-clause-upkeep g c = untimed-none c.args.store.now
+
+pub returns-in_default-cause_of-clause-upkeep : goal.returns-in_default-cause_of-clause-upkeep
+returns-in_default-cause_of-clause-upkeep g c = untimed-none c.args.store.now
+
+pub returns-clause-upkeep : goal.returns-clause-upkeep
+returns-clause-upkeep g c = c.expel.ensures.upkeep
+
+pub move_to_back-requires : goal.move_to_back-requires
+move_to_back-requires g c = record { placed = c.in-Some.ensures.0.placed; member = c.in-Some.ensures.0.member }
+
+pub expel-requires : goal.expel-requires
+expel-requires g c = c.in-Some-find.ensures.handle refl

@@ -69,18 +69,14 @@ impl<X> ExpirationPolicy<X> {
     #[inline(always)]
     pub fn is_past_time_to_live(&self, written: Instant, now: Instant) -> bool
     {
-        self.time_to_live
-            .as_ref()
-            .is_some_and(|span| span.has_passed(written, now))
+        matches!(&self.time_to_live, Some(span) if span.has_passed(written, now))
     }
 
     /// Whether the time to idle of an entry read then is over.
     #[inline(always)]
     pub fn is_past_time_to_idle(&self, read: Instant, now: Instant) -> bool
     {
-        self.time_to_idle
-            .as_ref()
-            .is_some_and(|span| span.has_passed(read, now))
+        matches!(&self.time_to_idle, Some(span) if span.has_passed(read, now))
     }
 
     /// What decides when each entry expires.

@@ -15,6 +15,8 @@ pub(crate) struct Slot<K, V> {
     state: State<K, V>,
 }
 
+// Written out so that an owner's drop is one call.
+
 // With keys and values of a word each, a line of memory, of which the first 48 bytes are what look-ups read, the
 // first 56 with a time to live.
 enum State<K, V> {

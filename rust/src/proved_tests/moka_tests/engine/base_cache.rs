@@ -83,7 +83,7 @@ fn filled(alloc: Global, value: &Rc<u8>, told: Rc<Cell<u32>>) -> Result<SharedCa
     let listener = Some(Counter { told });
     let mut cache: SharedCache = cache_of(alloc, Some(3), None, listener)?;
     for key in [1, 2, 2, 3, 4] {
-        settle(&mut cache, key, value.try_clone()?)?;
+        settle(&mut cache, key, key, value.try_clone()?, Instant(0))?;
     }
     Ok(cache)
 }
@@ -117,7 +117,7 @@ fn key_of_first_row(cache: &NumberCache) -> Result<u64, Fail> {
 
 /// Puts one key in, and out goes the one before, whose row is the next one's: so even keys stand in the first row.
 fn pass_through(rt: &impl Abort, cache: &mut NumberCache, key: u64) -> Result<(), Fail> {
-    settle(cache, key, key)?;
+    settle(cache, key, key, key, Instant(0))?;
     assert_equal(rt, key_of_first_row(cache)?, key - key % 2);
     assert!( !run(cache, Instant(0)));
     Ok(())
@@ -181,8 +181,9 @@ fn get_unless_ten(cache: &mut NumberCache, key: u64) -> Result<(Option<u64>, u32
 }
 
 fn check_look_ups(rt: &impl Abort, cache: &mut NumberCache) -> Result<(), Fail> {
-    settle(cache, 1, 10)?;
-    settle(cache, 2, 20)?;
+    for key in [1, 2] {
+        settle(cache, key, key, 10 * key, Instant(0))?;
+    }
     for (key, answer) in [(1, (None, 1)), (2, (Some(20), 1)), (3, (None, 0))] {
         assert_equal(rt, get_unless_ten(cache, key)?, answer);
     }
@@ -203,7 +204,7 @@ fn weight_by<F: PairFn<u64, u64, u32>>(alloc: Global, closure: F) -> Result<u64,
     let mut cache: TestCache<u64, NoListener, ByClosure<u64, u64, u32, F>> = cache_of(
         alloc, None, weigher, None,
     )?;
-    settle(&mut cache, 1, 2)?;
+    settle(&mut cache, 1, 1, 2, Instant(0))?;
     run(&mut cache, Instant(0));
     Ok(cache.weighted_size())
 }

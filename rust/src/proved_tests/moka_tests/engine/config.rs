@@ -98,7 +98,7 @@ fn weights_after_runs(cache: &mut Chosen) -> (u64, u64) {
 /// Of three entries the newest stays, since the eviction is by recency.
 fn check_weights(rt: &impl Abort, cache: &mut Chosen) -> Result<(), Fail> {
     for (key, ticket) in [(4, 8), (5, 9), (6, 10)] {
-        assert_equal(rt, settle(cache, key, key)?, ticket);
+        assert_equal(rt, settle(cache, key, key, key, Instant(0))?, ticket);
     }
     assert_equal(rt, weights_after_runs(cache), (15, 6));
     Ok(())

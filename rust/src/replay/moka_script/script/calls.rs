@@ -208,24 +208,31 @@ fn resize(arguments: &[&str]) -> Option<ScriptCall>
 /// The call of that name, if there is one.
 pub fn parse_call<'a>(name: &str, arguments: &[&'a str]) -> Option<LineCall<'a>>
 {
-    let call = match name {
-        "insert" => return insert(arguments),
-        "run" => return run(arguments),
-        "send" => send(arguments)?,
-        "get" => get(arguments)?,
-        "peek" => peek(arguments)?,
-        "scan" => scan(arguments)?,
-        "contains" => contains(arguments)?,
-        "key" => key(arguments)?,
-        "remove" => remove(arguments)?,
-        "invall" => invall(arguments)?,
-        "invif" => invif(arguments)?,
-        "resize" => resize(arguments)?,
-        "due" => due(arguments)?,
-        "keys" => alone(Call::Keys { segment: 0 }, arguments)?,
-        "report" => alone(Call::Report, arguments)?,
-        "pending" => alone(Call::Pending, arguments)?,
-        _ => return None,
-    };
-    Some(LineCall::Other(call))
+    match name {
+        "insert" => insert(arguments),
+        "run" => run(arguments),
+        _ => Some(LineCall::Other(parse_other(name, arguments)?)),
+    }
+}
+
+/// The call of that name, if there is one and its value does not stand in the line.
+fn parse_other(name: &str, arguments: &[&str]) -> Option<ScriptCall>
+{
+    match name {
+        "send" => send(arguments),
+        "get" => get(arguments),
+        "peek" => peek(arguments),
+        "scan" => scan(arguments),
+        "contains" => contains(arguments),
+        "key" => key(arguments),
+        "remove" => remove(arguments),
+        "invall" => invall(arguments),
+        "invif" => invif(arguments),
+        "resize" => resize(arguments),
+        "due" => due(arguments),
+        "keys" => alone(Call::Keys { segment: 0 }, arguments),
+        "report" => alone(Call::Report, arguments),
+        "pending" => alone(Call::Pending, arguments),
+        _ => None,
+    }
 }

@@ -2,7 +2,7 @@
 //! The clock of a script.
 use crate::support::prelude::*;
 
-use crate::replay::moka_script::lex::number;
+use crate::replay::moka_script::lex::{is_word, number};
 use crate::support::alloc::{AllocError, Global};
 
 /// The readings of a clock, which still stand in their line, so that reading it needs no memory.
@@ -32,14 +32,14 @@ impl<'a> Readings<'a> {
 /// Tells whether all words behind the first one are numbers.
 fn are_numbers(line: &str) -> bool
 {
-    let mut words = line.split(' ').filter(|word| !word.is_empty()).skip(1);
+    let mut words = line.split(' ').filter(is_word).skip(1);
     words.all(|word| number(word).is_some())
 }
 
 /// The numbers behind the first word.
 fn numbers_of(alloc: Global, line: &str) -> Result<Vec<u64>, AllocError>
 {
-    let words = line.split(' ').filter(|word| !word.is_empty()).skip(1);
+    let words = line.split(' ').filter(is_word).skip(1);
     words.filter_map(number).collect_in(alloc)
 }
 

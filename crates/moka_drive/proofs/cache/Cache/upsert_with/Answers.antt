@@ -1,4 +1,4 @@
-use Rattle.std.proofs.Common.{ℕ, ◌∙◌, refl, sym, subst, Some, Ok, Err}
+use Rattle.std.proofs.Common.{ℕ, ◌∙◌, refl, rules, sym, subst, Some, Ok, Err}
 use Rattle.std.proofs.lemmas.Result.{err_from_is_err_and}
 use Rattle.moka_parts.specs.Hashing.{key_hash}
 use Rattle.moka_drive.proofs.Computing.{upserted}
@@ -21,4 +21,4 @@ returns-in_err-insert_entry g c =
     rw (p.1, p.2) (got.0, Ok c.in-Ok.seen, got.1, Some (c.f-value.result, put.0), c.f-value.ensures, put.1, put.2, c.in_err-insert_entry.ensures.counted ∙ c.in-Ok.ensures.counted, c.in-Ok.ensures.sees, (back.0, (c.in-Ok.seen, refl, subst (g.F.FnOnce.post c.args.f (c.in-Ok.seen, tt)) (sym back.1) c.f-value.ensures)))
 
 pub f-value-requires : goal.f-value-requires
-f-value-requires g c = c.requires.callable c.in-Ok.seen c.in-Ok.ensures.sees
+f-value-requires g c = c.requires.callable _ (search rules)

@@ -11,3 +11,6 @@ invariant_of-result g c = record {
       c.args.max_capacity c.args.eviction_policy c.args.expiration_policy c.args.weigher c.args.invalidator_enabled;
   store = stocked-new g.X.Expiry.read _ c.in_ok-inner.inner c.needs_write_list-ordered.result c.needs_timers-timed.result c.args.first_ticket c.in_ok-inner.ensures.empty c.needs_write_list-ordered.ensures c.needs_timers-timed.ensures;
 }
+
+pub returns-clause-room : goal.returns-clause-room
+returns-clause-room g c = rw (← c.unwrap_or-initial_capacity.ensures) c.in_ok-inner.ensures.room

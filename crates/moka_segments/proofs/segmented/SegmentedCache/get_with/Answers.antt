@@ -1,5 +1,7 @@
+use Rattle.std.proofs.Common.{◌∙◌}
+use Rattle.std.proofs.lemmas.List.{length-set}
 use Rattle.moka_segments.specs.Routing.{segment_of}
-use Rattle.moka_segments.proofs.OneSegment.{steps_in, at_place}
+use Rattle.moka_segments.proofs.OneSegment.{steps_in, at_place, within_all}
 use Rattle.moka_parts.specs.Hashing.{key_hash}
 use Rattle.moka_segments.proofs.segmented.SegmentedCache.get_with.Goals as goal
 
@@ -12,4 +14,10 @@ get_with-requires g c = record {
 pub returns : goal.returns
 returns g c =
     steps_in (λ r. segment_of r.count (key_hash g.S.BuildHasher g.S.Hasher.Hasher r.hasher (g.K.Hash.hash_input c.args.key))) c.self.view_is c.segment_of-index.ensures.place (rw c.self.invariant c.segment_of-index.ensures.within)
-    _ c.index_mut.result.now c.get_with.new.self c.index_mut.ensures.value c.get_with.ensures
+    _ c.index_mut.result.now c.get_with.new.self c.index_mut.ensures.value (record { step = c.get_with.ensures })
+
+pub index_mut-requires : goal.index_mut-requires
+index_mut-requires g c = within_all c.self.inside.segments.ok.0 c.self.invariant c.segment_of-index.ensures.within
+
+pub invariant_of-self : goal.invariant_of-self
+invariant_of-self g c = length-set c.self.inside.segments.items c.segment_of-index.result c.get_with.new.self ∙ c.self.invariant

@@ -9,10 +9,10 @@ pub returns : goal.returns
 returns g c =
     let e = c.remove.ensures in
     steps_in (λ r. segment_of r.count (key_hash g.S.BuildHasher g.S.Hasher.Hasher r.hasher (g.K.Hash.hash_input c.args.key.now))) c.self.view_is c.segment_of-index.ensures.place (rw c.self.invariant c.segment_of-index.ensures.within)
-    _ c.index_mut-segment.result.now c.remove.new.self c.index_mut-segment.ensures.value (record { made = e.made; gone = e.gone; counted = e.counted })
+    _ c.index_mut.result.now c.remove.new.self c.index_mut.ensures.value (record { made = e.made; gone = e.gone; counted = e.counted })
 
-pub index_mut-segment-requires : goal.index_mut-segment-requires
-index_mut-segment-requires g c = within_all c.self.inside.segments.ok.0 c.self.invariant c.segment_of-index.ensures.within
+pub index_mut-requires : goal.index_mut-requires
+index_mut-requires g c = within_all c.self.inside.segments.ok.0 c.self.invariant c.segment_of-index.ensures.within
 
 pub invariant_of-self : goal.invariant_of-self
 invariant_of-self g c = length-set c.self.inside.segments.items c.segment_of-index.result c.remove.new.self ∙ c.self.invariant

@@ -51,3 +51,21 @@ returns g c =
       none = tt;
       unchanged = tt;
     }
+
+pub returns-in_err-due-clause-due : goal.returns-in_err-due-clause-due
+returns-in_err-due-clause-due g c = rw c.from_residual.ensures tt
+
+pub returns-in_err-due-clause-placed : goal.returns-in_err-due-clause-placed
+returns-in_err-due-clause-placed g c = rw c.from_residual.ensures tt
+
+pub returns-in_err-due-clause-member : goal.returns-in_err-due-clause-member
+returns-in_err-due-clause-member g c = rw c.from_residual.ensures tt
+
+pub returns-in_err-due-clause-step : goal.returns-in_err-due-clause-step
+returns-in_err-due-clause-step g c = rw c.from_residual.ensures tt
+
+pub returns-in_err-due-clause-unchanged : goal.returns-in_err-due-clause-unchanged
+returns-in_err-due-clause-unchanged g c = rw (c.from_residual.ensures, c.in_err-due.ensures.unchanged, ← c.self.view_is) refl
+
+pub invariant_of-self : goal.invariant_of-self
+invariant_of-self g c = rw c.in_err-due.ensures.unchanged c.self.invariant

@@ -4,13 +4,12 @@ use Rattle.moka_store.specs.RecordTable.{Row, records_of, places_of}
 use Rattle.moka_parts.specs.declared.records.Record.{Record}
 use Rattle.std.specs.FinMap as finite
 use Rattle.std.proofs.Common.{◌≢◌, ◌+◌, inl, inr, refl, sym, ap, ◌∙◌, arith, subst}
-use Rattle.std.proofs.lemmas.Grind.{common_steps}
 use Rattle.std.specs.FinMap.{get}
 use Rattle.moka_index.proofs.Maps.{get-inserted, get-past_insert}
 use Rattle.moka_store.proofs.TableMaps.{row_at-within}
 use Rattle.moka_store.proofs.Gets.{after_insert, len-inserted}
 use Rattle.moka_store.proofs.Ties.{counted-unplaced}
-use Rattle.moka_store.proofs.Places.{room-narrow}
+use Rattle.moka_store.proofs.Places.{room-narrow, room-less}
 use Rattle.moka_store.proofs.Steps.{key-fresh, index-vacant, inserted, unrecorded}
 use Rattle.moka_store.specs.Weights.{IsWeighed}
 use Rattle.moka_store.proofs.store.Store.insert_new.Goals as goal
@@ -49,7 +48,7 @@ returns g c =
     record {
       number = refl;
       step = rw (s.access, stay.written_is, stay.cursor_is, stay.timers_is, c.insert-place.ensures.records, c.insert-place.ensures.places, ← c.self.view_is) refl;
-      room = (let room = rw (← c.self.view_is) at c.requires.room in rw (← c.self.view_is) (grind (arith, common_steps, c.insert-place.ensures.len, c.insert-place.ensures.room, c.insert.ensures.room)));
+      room = rw (← c.self.view_is) (room-less c.self.inside.table.rows c.insert-place.new.self.rows _ _ _ _ _ (rw (← c.self.view_is) at c.requires.room) c.insert.ensures.room c.insert-place.ensures.room c.insert-place.ensures.len);
       apart = rw s.access (counted-unplaced _ _ _ _ c.self.invariant.tied _ fresh);
       handle = record {
         placed = rw c.insert-place.ensures.places (get-inserted _ _ _);
