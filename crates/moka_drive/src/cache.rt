@@ -592,7 +592,7 @@ impl<
     pub(crate) fn count_load(&mut self)
         ensures { self.new ≡ record self.old { stats = after_load self.old.stats } }
     {
-        self.stats.count_load();
+        self.stats.loads = self.stats.loads.saturating_add(1);
     }
 
     /// Registers a predicate at the moment `now`, as the engine's call of this name does: what it covers is hidden from

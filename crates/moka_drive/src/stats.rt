@@ -1,6 +1,6 @@
 //! What a cache counts of its look-ups.
 ghost use Rattle.std.specs.Prelude.{◌≡◌, Option, Result};
-ghost use Rattle.moka_drive.specs.Counters.{after_look_up, after_load, no_stats};
+ghost use Rattle.moka_drive.specs.Counters.{after_look_up, no_stats};
 
 use moka_parts::error::OutOfMemory;
 
@@ -38,12 +38,5 @@ impl Stats {
             Ok(None) => self.misses = self.misses.saturating_add(1),
             Err(_) => {}
         }
-    }
-
-    /// Counts a call of a maker.
-    pub(crate) fn count_load(&mut self)
-        ensures { self.new ≡ after_load self.old }
-    {
-        self.loads = self.loads.saturating_add(1);
     }
 }

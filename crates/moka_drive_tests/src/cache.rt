@@ -1,5 +1,6 @@
 //! Worked calls of the synchronous cache, each of an empty one.
 use crate::entry;
+use crate::makers::{failing, nothing, some_twenty, ten};
 use moka_drive::{Cache, Stats};
 use moka_engine::{CacheConfig, FixedClock, Instant, Listener, NoExpiry, RemovalCause};
 use std::alloc::Global;
@@ -10,7 +11,6 @@ pub const NOW: Instant = Instant(0);
 // A cache of numbers by numbers.
 pub type Plain = Cache<u64, u64>;
 
-#[derive(Clone, Copy)]
 enum Case {
     SendsAtOnce,
     RunsByItself,
@@ -82,8 +82,8 @@ const CASES: [(Case, &str, Option<u64>, bool); 11] = [
 
 #[test]
 fn answers_as_it_should(rt: HostRuntime) {
-    for (case, name, capacity, is_automatic) in CASES {
-        let mut cache = empty(&rt, rt.alloc(), capacity, is_automatic);
+    for (case, name, capacity, is_automatic) in &CASES {
+        let mut cache = empty(&rt, rt.alloc(), *capacity, *is_automatic);
         assert!(rt; is_right(rt.alloc(), &mut cache, case), "{name}");
     }
 }
@@ -102,7 +102,7 @@ fn empty(rt: &impl Abort, alloc: Global, capacity: Option<u64>, is_automatic: bo
     Cache::new(engine)
 }
 
-fn is_right(alloc: Global, cache: &mut Plain, case: Case) -> bool {
+fn is_right(alloc: Global, cache: &mut Plain, case: &Case) -> bool {
     match case {
         Case::SendsAtOnce => sends_at_once(cache),
         Case::RunsByItself => fill(cache, 65) && waiting(cache) == (0, 1, 64),
@@ -175,24 +175,18 @@ fn makes_once(cache: &mut Plain) -> bool {
         && cache.stats() == counted
 }
 
-// What a look-up gives whose maker may give nothing.
-fn found_or(cache: &mut Plain, value: Option<u64>) -> Option<Option<u64>> {
-    let clock = &mut FixedClock(NOW);
-    cache.optionally_get_with(1, || value, NOW, clock).ok()
-}
-
-// What a look-up gives whose maker may fail.
-fn tried(cache: &mut Plain, value: Result<u64, u64>) -> Option<Result<u64, u64>> {
-    let clock = &mut FixedClock(NOW);
-    cache.try_get_with(1, || value, NOW, clock).ok()
-}
-
 fn asks_makers(cache: &mut Plain) -> bool {
-    found_or(cache, None) == Some(None)
-        && tried(cache, Err(7)) == Some(Err(7))
-        && !cache.contains_key(&1, NOW)
-        && tried(cache, Ok(10)) == Some(Ok(10))
-        && found_or(cache, Some(20)) == Some(Some(10))
+    let clock = &mut FixedClock(NOW);
+    let declined = cache.optionally_get_with(1, nothing, NOW, clock);
+    let failed = cache.try_get_with(1, failing, NOW, clock);
+    let is_made_early = cache.contains_key(&1, NOW);
+    let made = cache.try_get_with(1, ten, NOW, clock);
+    let found = cache.optionally_get_with(1, some_twenty, NOW, clock);
+    matches!(declined, Ok(None))
+        && matches!(failed, Ok(Err(7)))
+        && !is_made_early
+        && matches!(made, Ok(Ok(10)))
+        && matches!(found, Ok(Some(10)))
 }
 
 #[derive(Drop)]

@@ -1,5 +1,6 @@
 //! Worked entry calls, and calls with many keys at once.
 use crate::cache::{NOW, Plain};
+use crate::makers::{failing, nothing, one_more, some_twenty, taken_out, twenty};
 use moka_drive::{CompResult, Op};
 use moka_engine::FixedClock;
 use std::alloc::Global;
@@ -8,7 +9,7 @@ use std::alloc::Global;
 pub fn inserts(cache: &mut Plain) -> bool {
     let clock = &mut FixedClock(NOW);
     let first = cache.get_or_insert(1, 10, NOW, clock);
-    let second = cache.get_or_insert_with(1, || 20, NOW, clock);
+    let second = cache.get_or_insert_with(1, twenty, NOW, clock);
     matches!(first, Ok(entry) if (entry.key, entry.value, entry.is_fresh) == (1, 10, true))
         && matches!(second, Ok(entry) if (entry.key, entry.value, entry.is_fresh) == (1, 10, false))
 }
@@ -16,9 +17,9 @@ pub fn inserts(cache: &mut Plain) -> bool {
 // Whether a maker that gives nothing and one that fails insert nothing, and one that gives a value does.
 pub fn asks_makers(cache: &mut Plain) -> bool {
     let clock = &mut FixedClock(NOW);
-    let declined = cache.get_or_optionally_insert_with(1, || None, NOW, clock);
-    let failed = cache.get_or_try_insert_with(1, || Err(7), NOW, clock);
-    let made = cache.get_or_optionally_insert_with(1, || Some(10), NOW, clock);
+    let declined = cache.get_or_optionally_insert_with(1, nothing, NOW, clock);
+    let failed = cache.get_or_try_insert_with(1, failing, NOW, clock);
+    let made = cache.get_or_optionally_insert_with(1, some_twenty, NOW, clock);
     matches!(declined, Ok(None))
         && matches!(failed, Ok(Err(7)))
         && matches!(made, Ok(Some(entry)) if entry.is_fresh)
@@ -27,7 +28,6 @@ pub fn asks_makers(cache: &mut Plain) -> bool {
 
 // Whether a value was replaced, and which one is there then.
 fn upserted(cache: &mut Plain) -> Option<(bool, u64)> {
-    let one_more = |seen: Option<u64>| seen.unwrap_or(0).saturating_add(1);
     match cache.upsert_with(1, one_more, NOW, &mut FixedClock(NOW)) {
         Ok(entry) => Some((entry.is_old_value_replaced, entry.value)),
         Err(_) => None,
@@ -39,7 +39,7 @@ fn is_computed(cache: &mut Plain) -> bool {
     let clock = &mut FixedClock(NOW);
     let left = cache.compute_with(1, |_| Op::Nop, NOW, clock);
     let put = cache.compute_with(1, |_| Op::Put(3), NOW, clock);
-    let taken = cache.compute_with(1, |_| Op::Remove, NOW, clock);
+    let taken = cache.compute_with(1, taken_out, NOW, clock);
     matches!(left, Ok(CompResult::Unchanged(entry)) if entry.value == 2)
         && matches!(put, Ok(CompResult::ReplacedWith(entry)) if entry.value == 3)
         && matches!(taken, Ok(CompResult::Removed(entry)) if entry.value == 3)
@@ -56,11 +56,11 @@ pub fn computes(cache: &mut Plain) -> bool {
 pub fn selects_to_insert(cache: &mut Plain) -> bool {
     let clock = &mut FixedClock(NOW);
     let put = cache.entry(1).or_insert(10, NOW, clock);
-    let found = cache.entry(1).or_insert_with(|| 20, NOW, clock);
+    let found = cache.entry(1).or_insert_with(twenty, NOW, clock);
     let declined = cache
         .entry(2)
-        .or_optionally_insert_with(|| None, NOW, clock);
-    let failed = cache.entry(2).or_try_insert_with(|| Err(7), NOW, clock);
+        .or_optionally_insert_with(nothing, NOW, clock);
+    let failed = cache.entry(2).or_try_insert_with(failing, NOW, clock);
     matches!(put, Ok(entry) if entry.is_fresh)
         && matches!(found, Ok(entry) if !entry.is_fresh && entry.value == 10)
         && matches!(declined, Ok(None))
@@ -70,9 +70,8 @@ pub fn selects_to_insert(cache: &mut Plain) -> bool {
 // Whether a value is put, and then taken out.
 pub fn selects_to_compute(cache: &mut Plain) -> bool {
     let clock = &mut FixedClock(NOW);
-    let one_more = |seen: Option<u64>| seen.unwrap_or(0).saturating_add(1);
     let put = cache.entry(1).and_upsert_with(one_more, NOW, clock);
-    let taken = cache.entry(1).and_compute_with(|_| Op::Remove, NOW, clock);
+    let taken = cache.entry(1).and_compute_with(taken_out, NOW, clock);
     matches!(put, Ok(entry) if !entry.is_old_value_replaced && entry.value == 1)
         && matches!(taken, Ok(CompResult::Removed(entry)) if entry.value == 1)
         && !cache.contains_key(&1, NOW)

@@ -6,6 +6,8 @@ mod cache;
 #[cfg(test)]
 mod entry;
 #[cfg(test)]
+mod makers;
+#[cfg(test)]
 mod predicates;
 #[cfg(test)]
 mod saves;

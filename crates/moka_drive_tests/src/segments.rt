@@ -1,5 +1,6 @@
 //! Worked calls of a cache in segments.
 use crate::cache::NOW;
+use crate::makers::{failing, nothing, some_twenty, ten, twenty};
 use crate::predicates::{Below, OneId};
 use moka_drive::Cache;
 use moka_engine::{
@@ -14,7 +15,6 @@ type Segmented = SegmentedCache<u64, u64>;
 
 const SECONDS: u64 = 5;
 
-#[derive(Clone, Copy)]
 enum Case {
     FindsWhatWasPut,
     AsksMakers,
@@ -33,7 +33,7 @@ const CASES: [(Case, &str); 5] = [
 
 #[test]
 fn answers_as_it_should(rt: HostRuntime) {
-    for (case, name) in CASES {
+    for (case, name) in &CASES {
         let mut cache = four_of(&rt, rt.alloc(), 1_001);
         assert!(rt; is_right(&mut cache, case), "{name}");
     }
@@ -48,7 +48,7 @@ fn four_of(rt: &impl Abort, alloc: Global, capacity: u64) -> Segmented {
     cache
 }
 
-fn is_right(cache: &mut Segmented, case: Case) -> bool {
+fn is_right(cache: &mut Segmented, case: &Case) -> bool {
     match case {
         Case::FindsWhatWasPut => fill(cache, 200) && finds(cache, 200) && shrinks(cache),
         Case::AsksMakers => asks_makers(cache),
@@ -79,7 +79,7 @@ fn finds(cache: &mut Segmented, keys: u64) -> bool {
 // One more than 200 is made, and two go.
 fn shrinks(cache: &mut Segmented) -> bool {
     let clock = &mut FixedClock(NOW);
-    let is_made = cache.get_with(200, || 200, NOW, clock).is_ok();
+    let is_made = cache.get_with(200, twenty, NOW, clock).is_ok();
     let is_removed = cache.remove(&7, NOW, clock).is_ok();
     let is_invalidated = cache.invalidate(&8, NOW, clock).is_ok();
     cache.run_pending_tasks(NOW, clock);
@@ -92,10 +92,10 @@ fn shrinks(cache: &mut Segmented) -> bool {
 
 fn asks_makers(cache: &mut Segmented) -> bool {
     let clock = &mut FixedClock(NOW);
-    let declined = cache.optionally_get_with(1, || None, NOW, clock);
-    let failed = cache.try_get_with(1, || Err(7), NOW, clock);
-    let made = cache.try_get_with(1, || Ok::<u64, u64>(10), NOW, clock);
-    let found = cache.optionally_get_with(1, || Some(20), NOW, clock);
+    let declined = cache.optionally_get_with(1, nothing, NOW, clock);
+    let failed = cache.try_get_with(1, failing, NOW, clock);
+    let made = cache.try_get_with(1, ten, NOW, clock);
+    let found = cache.optionally_get_with(1, some_twenty, NOW, clock);
     matches!(declined, Ok(None))
         && matches!(failed, Ok(Err(7)))
         && matches!(made, Ok(Ok(10)))

@@ -1,8 +1,9 @@
 //! Worked calls of a cache with its own clock, each of an empty one whose entries live for five seconds.
 use crate::cache::NOW;
+use crate::makers::{failing, nothing, one_more, taken_out, ten, twenty};
 use crate::predicates::{Below, OneId};
 use crate::saves::entry_of;
-use moka_drive::{CompResult, CountingListener, Op, Removals, Stats};
+use moka_drive::{CompResult, CountingListener, Removals, Stats};
 use moka_engine::{CacheConfig, Clock, Instant, NoExpiry, NoListener};
 use moka_timed::{ManualClock, SystemClock, TimedCache};
 use std::alloc::Global;
@@ -13,7 +14,6 @@ type Timed = TimedCache<u64, u64, ManualClock>;
 
 const SECONDS: u64 = 5;
 
-#[derive(Clone, Copy)]
 enum Case {
     Ages,
     Invalidates,
@@ -40,7 +40,7 @@ const CASES: [(Case, &str); 9] = [
 
 #[test]
 fn goes_by_its_own_clock(rt: HostRuntime) {
-    for (case, name) in CASES {
+    for (case, name) in &CASES {
         let config = CacheConfig::default().time_to_live(Duration::from_secs(SECONDS));
         let Ok(mut cache) = Timed::build(config, rt.alloc(), ManualClock { now: NOW }) else {
             panic!(rt; "memory");
@@ -49,7 +49,7 @@ fn goes_by_its_own_clock(rt: HostRuntime) {
     }
 }
 
-fn is_right(alloc: Global, cache: &mut Timed, case: Case) -> bool {
+fn is_right(alloc: Global, cache: &mut Timed, case: &Case) -> bool {
     match case {
         Case::Ages => ages(cache),
         Case::Invalidates => fill(cache) && hides_one(cache) && hides_all(cache),
@@ -115,8 +115,8 @@ fn lists(cache: &mut Timed) -> bool {
 
 // Whether a maker that gives nothing and one that may fail are asked.
 fn asks_makers(cache: &mut Timed) -> bool {
-    let declined = cache.optionally_get_with(1, || None);
-    let made = cache.try_get_with(1, || Ok::<u64, u64>(10));
+    let declined = cache.optionally_get_with(1, nothing);
+    let made = cache.try_get_with(1, ten);
     let counted = Stats {
         hits: 0,
         misses: 2,
@@ -134,9 +134,9 @@ fn takes_capacity(cache: &mut Timed) -> bool {
 // Whether a value is put, and then found; and a maker that gives nothing and one that fails put nothing.
 fn selects_to_insert(cache: &mut Timed) -> bool {
     let put = cache.entry(1).or_insert(10);
-    let found = cache.entry(1).or_insert_with(|| 20);
-    let declined = cache.entry(2).or_optionally_insert_with(|| None);
-    let failed = cache.entry(2).or_try_insert_with(|| Err(7));
+    let found = cache.entry(1).or_insert_with(twenty);
+    let declined = cache.entry(2).or_optionally_insert_with(nothing);
+    let failed = cache.entry(2).or_try_insert_with(failing);
     matches!(put, Ok(entry) if entry.is_fresh)
         && matches!(found, Ok(entry) if !entry.is_fresh && entry.value == 10)
         && matches!(declined, Ok(None))
@@ -145,10 +145,10 @@ fn selects_to_insert(cache: &mut Timed) -> bool {
 
 // Whether a value is put, and then taken out.
 fn selects_to_compute(cache: &mut Timed) -> bool {
-    let put = cache.entry(1).and_upsert_with(|_| 5);
-    let taken = cache.entry(1).and_compute_with(|_| Op::Remove);
-    matches!(put, Ok(entry) if !entry.is_old_value_replaced && entry.value == 5)
-        && matches!(taken, Ok(CompResult::Removed(entry)) if entry.value == 5)
+    let put = cache.entry(1).and_upsert_with(one_more);
+    let taken = cache.entry(1).and_compute_with(taken_out);
+    matches!(put, Ok(entry) if !entry.is_old_value_replaced && entry.value == 1)
+        && matches!(taken, Ok(CompResult::Removed(entry)) if entry.value == 1)
         && !cache.contains_key(&1)
 }
 
@@ -171,9 +171,9 @@ fn takes_many(alloc: Global, cache: &mut Timed) -> bool {
 
 // Whether a value is made, is there, and is taken out.
 fn makes_and_removes<C: Clock>(cache: &mut TimedCache<u64, u64, C>) -> bool {
-    matches!(cache.get_with(1, || 10), Ok(10))
+    matches!(cache.get_with(1, twenty), Ok(20))
         && cache.contains_key(&1)
-        && matches!(cache.remove(&1), Ok(Some(10)))
+        && matches!(cache.remove(&1), Ok(Some(20)))
         && !cache.contains_key(&1)
 }
 

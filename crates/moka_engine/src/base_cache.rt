@@ -19,7 +19,6 @@ ghost use Rattle.moka_parts.specs.declared.calls.Reply.TheVariants as reply;
 ghost use Rattle.moka_engine.specs.BaseCache.{IsServed, empty_engine, expirations_of, settings_of};
 ghost use Rattle.moka_engine.specs.Makes.{Makes, meaning};
 
-use self::by_key_test::SameKey;
 use self::gets::Moments;
 use moka_inner::{Hashes, Inner, Layout};
 use moka_parts::calls::{Entry, KvEntry, Ticket};
@@ -27,7 +26,7 @@ use moka_parts::closures::{NoTest, PredicateFn, Weigher};
 use moka_parts::error::{CapacityError, InsertRefused, OutOfMemory, SendError};
 use moka_parts::housekeeper::{Clock, Housekeeper, HousekeeperConfig};
 use moka_parts::invalidator::Invalidator;
-use moka_parts::key_test::KeyTest;
+use moka_parts::key_test::{KeyTest, SameKey};
 use moka_parts::notification::{Listener, RemovalNotifier};
 use moka_parts::policy::{EvictionPolicy, ExpirationPolicy, Expiry, Instant, Policy};
 use moka_parts::records::Record;
@@ -54,24 +53,6 @@ pub use snapshot::{Snapshot, SnapshotEntry};
 
 // How many segments the map has.
 const SEGMENTS: usize = 1;
-
-// What a get looks up: what only its key passes, with the key's hashes, whether the record's own key is to be cloned, and
-// when.
-#[derive(Drop)]
-struct Look<'a, T> {
-    test: &'a T,
-    hashes: Hashes,
-    need_key: bool,
-    now: Instant,
-}
-
-// A hit that is to be queued: the record's number and first hash, and whether its expiry was renewed.
-#[derive(Clone, Copy)]
-struct ReadHit {
-    number: u64,
-    hash: u64,
-    renewed: bool,
-}
 
 /// A cache. moka: `sync::base_cache::BaseCache`.
 pub struct BaseCache<
@@ -236,15 +217,10 @@ impl<
             max_capacity now.0 first_ticket eviction_listener c.room) }
         ensures room { IfOk result (λ c. unwrap_or initial_capacity 0 ≤ c.room) }
     {
-        let initial_capacity = initial_capacity.unwrap_or(0);
-        let ordered = needs_write_list(&expiration_policy, invalidator_enabled);
-        let timed = needs_timers(&expiration_policy);
-        let layout = Layout {
-            initial_capacity,
-            ordered,
-            timed,
+        let layout = layout_of(&expiration_policy, invalidator_enabled, initial_capacity);
+        let Ok(inner) = Inner::new(alloc, build_hasher, first_ticket, layout) else {
+            return Err(OutOfMemory);
         };
-        let inner = Inner::new(alloc, build_hasher, first_ticket, layout)?;
         let notifier = RemovalNotifier::new(eviction_listener);
         let housekeeper = Housekeeper::new(notifier.is_enabled(), housekeeper_config, now);
         Ok(BaseCache {
@@ -289,7 +265,8 @@ impl<
         ensures { result ≡ limits_of self.now.state }
     {
         let times = &self.expiration_policy;
-        let (live, idle) = (times.time_to_live(), times.time_to_idle());
+        let live = times.time_to_live();
+        let idle = times.time_to_idle();
         Policy::new(self.max_capacity, live, idle)
     }
 
@@ -443,8 +420,8 @@ impl<
             };
             return Ok((self.inner.insert(key, hashes, update), now));
         };
-        let (policy, valid_after) = (&self.expiration_policy, self.valid_after);
-        let cause = causes::cause_of_replacement(&found, policy, valid_after, now);
+        let policy = &self.expiration_policy;
+        let cause = causes::cause_of_replacement(&found, policy, self.valid_after, now);
         let expires = inserts::expires_at_update(&found, policy, &key, &value, now);
         if let Err(error) = self.inner.reserve_operation() {
             return Err(InsertRefused { error, key, value });
@@ -540,9 +517,14 @@ impl<
         if !self.is_removal_notifier_enabled() {
             return Ok(());
         }
-        let (key, value) = (entry.key.clone()?, entry.value.clone()?);
-        let (written, read) = (entry.last_modified, entry.last_accessed);
-        let cause = causes::cause_of_removal(&self.expiration_policy, written, read, now);
+        let Ok(key) = entry.key.clone() else {
+            return Err(OutOfMemory);
+        };
+        let Ok(value) = entry.value.clone() else {
+            return Err(OutOfMemory);
+        };
+        let policy = &self.expiration_policy;
+        let cause = causes::cause_of_removal(policy, entry.last_modified, entry.last_accessed, now);
         self.notifier.notify(key, value, cause);
         Ok(())
     }
@@ -626,7 +608,10 @@ impl<
         if segment >= SEGMENTS {
             return Ok(None);
         }
-        Ok(Some(self.inner.keys(self.alloc)?))
+        match self.inner.keys(self.alloc) {
+            Ok(keys) => Ok(Some(keys)),
+            Err(_) => Err(OutOfMemory),
+        }
     }
 
     /// Looks up a key at the moment `now`, and queues the read. The answer has a clone of the record's value, and one
@@ -655,13 +640,8 @@ impl<
             (reply.Get own) self.old self.new (λ e. Leads C.reads clock.old e.readings clock.new)) result }
     {
         let own = self.inner.index_hash(key);
-        let look = Look {
-            test: &SameKey(key),
-            hashes: Hashes { hash, own },
-            need_key,
-            now,
-        };
-        self.get_hashed(look, &mut NoTest, clock)
+        let sought = (&SameKey(key), Hashes { hash, own });
+        self.get_hashed(sought, need_key, now, &mut NoTest, clock)
     }
 
     /// As `get_with_hash`, given the key's hash by the cache's own hasher (`hash`), so the key is not hashed again.
@@ -704,16 +684,22 @@ fn entry_of_record<K, V>(taken: Record<K, V>) -> KvEntry<K, V>
     }
 }
 
-// Whether records are also kept in the order of their writing.
-fn needs_write_list<X>(policy: &ExpirationPolicy<X>, invalidator_enabled: bool) -> bool
-    ensures { result ≡ (is_some policy.now.time_to_live || invalidator_enabled) }
+// Records are also kept in the order of their writing where they have a time to live or predicates may cover them, and
+// timers are kept where an expiry is set.
+fn layout_of<X>(
+    policy: &ExpirationPolicy<X>,
+    invalidator_enabled: bool,
+    initial_capacity: Option<usize>,
+) -> Layout
+    ensures { result ≡ record {
+      initial_capacity = unwrap_or initial_capacity 0;
+      ordered = is_some policy.now.time_to_live || invalidator_enabled;
+      timed = is_some policy.now.expiry;
+    } }
 {
-    policy.time_to_live().is_some() || invalidator_enabled
-}
-
-// Whether timers are kept: an expiry is set.
-fn needs_timers<X>(policy: &ExpirationPolicy<X>) -> bool
-    ensures { result ≡ is_some policy.now.expiry }
-{
-    policy.expiry().is_some()
+    Layout {
+        initial_capacity: initial_capacity.unwrap_or(0),
+        ordered: policy.time_to_live().is_some() | invalidator_enabled,
+        timed: policy.expiry().is_some(),
+    }
 }

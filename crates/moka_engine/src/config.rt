@@ -301,7 +301,6 @@ impl<X, L, P, W> CacheConfig<X, L, P, W> {
         ensures room { IfOk result (λ c. unwrap_or self.initial_capacity 0 ≤ c.room) }
     {
         let choices = self.choices;
-        let (live, idle) = (choices.time_to_live, choices.time_to_idle);
         BaseCache::new(
             alloc,
             choices.name,
@@ -311,7 +310,7 @@ impl<X, L, P, W> CacheConfig<X, L, P, W> {
             self.weigher,
             choices.eviction_policy,
             self.listener,
-            expirations(live, idle, self.expiry),
+            expirations(choices.time_to_live, choices.time_to_idle, self.expiry),
             choices.housekeeper,
             choices.invalidator_enabled,
             now,

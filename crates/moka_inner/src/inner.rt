@@ -491,7 +491,8 @@ impl<K: Eq + Hash, V, S: BuildHasher> Inner<K, V, S> {
     pub fn oldest_outstanding(&self) -> Option<Ticket>
         ensures { option_map (λ t. t.0) result ≡ slice_get (finite.keys self.now.outstanding) 0 }
     {
-        self.outstanding.oldest().map(Ticket)
+        let ticket = self.outstanding.oldest()?;
+        Some(Ticket(ticket))
     }
 
     /// How many operations are queued.

@@ -61,3 +61,8 @@ no_row places n place (Some x) is_at rowed away = go (get places n) refl (rowed 
     go : (p : Option ℕ) → get places n ≡ p → IsSome p → Some x ≡ None
     go None e some = cc
     go (Some p) e some = absurd (away (e ∙ ap (λ q. Some q) (is_at p e)))
+
+-- what is not found at its place is not in the map
+pub not_found : {X : Type 0} (places : FinMap nat_cmp ℕ) (n place : ℕ) (o : Option X) → IsAt places n place → (IsSome o → IsSome (get places n)) → (get places n ≡ Some place → None ≡ o) → o ≡ None
+not_found places n place None is_at rowed found = refl
+not_found places n place (Some x) is_at rowed found = no_row places n place (Some x) is_at rowed (λ here. (let none = found here in cc))

@@ -1,6 +1,5 @@
 -- A scan, from a walk round and the drop of predicates behind it.
 use Rattle.std.proofs.Common.{◌≡◌, refl, ℕ, zero, suc, ◌<◌, nat_lt, ◌≤◌, ◌⊎◌, Bool, true, false, true≢false, not, ◌&&◌, ◌==◌, List, [], ◌∷◌, ◌++◌, length, Option, Some, remove, Contains, MatchBool, inl, inr, ap, sym, subst, ◌∙◌, arith, append-nil}
-use Rattle.std.proofs.Math.Bool.{and-false}
 use Rattle.std.proofs.lemmas.List.Elements.{Contains-append_right}
 use Rattle.std.specs.FinMap.{get}
 use Rattle.std.specs.List.{IsDistinct}
@@ -196,7 +195,7 @@ pub some_there : (n : ℕ) → false ≡ (n == 0) → 1 ≤ n
 some_there zero e = absurd (true≢false (sym (itself_tested 0) ∙ sym e))
 some_there (suc n) e = omega arith
 
--- more is left where some were looked at
-pub left_more : (b : Bool) (m n : ℕ) → b ≡ (n == 0) → 1 ≤ m → not b ≡ (nat_lt 0 m && nat_lt 0 n)
-left_more true m n e some = sym (ap (λ k. nat_lt 0 m && nat_lt 0 k) (none_there n e) ∙ and-false (nat_lt 0 m))
-left_more false m n e some = sym (more_both m n some (some_there n e))
+-- more is left where some were looked at and the list is not empty
+pub left_more : (b : Bool) (m n : ℕ) → b ≡ (n == 0) → (nat_lt 0 m && not b) ≡ (nat_lt 0 m && nat_lt 0 n)
+left_more true m n e = sym (ap (λ k. nat_lt 0 m && nat_lt 0 k) (none_there n e))
+left_more false m n e = ap (λ b. nat_lt 0 m && b) (sym (more_both 1 n (omega arith) (some_there n e)))

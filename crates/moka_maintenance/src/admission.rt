@@ -229,9 +229,6 @@ fn apply_upsert<K: Eq + Hash + Drop, V: Drop, S: BuildHasher, L: Listener<K, V>>
 {
     let handle = upsert.handle;
     store.invariant_holds();
-    if !store.has_row(handle) {
-        return;
-    }
     let Some(found) = store.find(handle) else {
         return;
     };

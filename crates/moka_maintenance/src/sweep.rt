@@ -2,18 +2,16 @@
 //! capacity is exceeded.
 //!
 //! moka: `sync::base_cache::Inner::remove_expired_wo`, `Inner::remove_expired_ao`, `Inner::evict_lru_entries`.
-ghost use Rattle.std.specs.Prelude.{◌≡◌, ◌&&◌, ℕ, true, false, [], Some, IfNone, MatchOption, List};
+ghost use Rattle.std.specs.Prelude.{◌≡◌, ℕ, true, false, if◌then◌else◌, [], None, Some, IfNone, MatchOption, List};
 ghost use Rattle.std.specs.FinMap as finite;
-ghost use Rattle.moka_parts.specs.declared.notification.RemovalCause.{RemovalCause};
+ghost use Rattle.moka_parts.specs.declared.notification.RemovalCause.TheVariants.{Expired, Explicit};
 ghost use Rattle.moka_parts.specs.declared.records.Member.{Member};
-ghost use Rattle.moka_parts.specs.Maintenance.{is_front, is_over, is_past_read, is_past_write};
-ghost use Rattle.moka_parts.specs.Grounds.{cause_by_read, cause_by_write};
-ghost use Rattle.moka_parts.specs.Exact.{IsWithin};
-ghost use Rattle.moka_parts.specs.Visibility.{is_read_before, is_written_before};
+ghost use Rattle.moka_parts.specs.Maintenance.{is_front, is_over};
 ghost use Rattle.moka_parts.specs.Records.{total_weight};
+ghost use Rattle.moka_parts.specs.Time.{is_before, moment_of};
 ghost use Rattle.moka_maintenance.specs.Handles.{IsMemberAt};
 ghost use Rattle.moka_maintenance.specs.Steps.{Stock, stock_in};
-ghost use Rattle.moka_maintenance.specs.Sweeps.{tests_in, LeavesIn, IsNext, IsAtRest, TakesTurn, IsSwept};
+ghost use Rattle.moka_maintenance.specs.Sweeps.{LeavesIn, IsNext, IsAtRest, TakesTurn, IsSwept};
 ghost use Rattle.moka_maintenance.specs.Upkeep.{SetsNoTimer};
 
 use crate::expel::expel;
@@ -45,40 +43,34 @@ impl Tests {
             (λ cause. (c : Stock K V) (n : ℕ) → IsNext self sweep c n → LeavesIn self sweep c n found.now cause) }
     {
         match sweep {
-            Sweep::Written => self.cause_by_write(found),
-            Sweep::Read => self.cause_by_read(found),
+            Sweep::Written => {
+                let written = found.written();
+                self.cause_at(
+                    is_expired_by_ttl(self.time_to_live, written, self.now),
+                    written,
+                )
+            }
+            Sweep::Read => {
+                let read = found.read();
+                self.cause_at(is_expired_by_tti(self.time_to_idle, read, self.now), read)
+            }
             Sweep::Surplus => Some(RemovalCause::Size),
         }
     }
 
-    // Why a record leaves by the moment of its last write, if it does.
-    fn cause_by_write<K, V>(self, found: &RecordRef<'_, K, V>) -> Option<RemovalCause>
-        ensures cause { result ≡ cause_by_write (tests_in self) found.now }
-        ensures none { IfNone result ((is_past_write (tests_in self) found.now ≡ false)
-            × (is_written_before self.valid_after found.now ≡ false)) }
+    // Why a record leaves by the moment of its last write or read, if it does.
+    fn cause_at(self, is_past: bool, moment: Instant) -> Option<RemovalCause>
+        ensures cause { result ≡ (if is_past then Some Expired
+            else (if is_before moment.0 (moment_of self.valid_after) then Some Explicit else None)) }
+        ensures none { IfNone result ((is_past ≡ false) × (is_before moment.0 (moment_of self.valid_after) ≡ false)) }
     {
-        if is_expired_by_ttl(self.time_to_live, found.written(), self.now) {
-            return Some(RemovalCause::Expired);
+        if is_past {
+            Some(RemovalCause::Expired)
+        } else if is_invalid_entry(self.valid_after, moment) {
+            Some(RemovalCause::Explicit)
+        } else {
+            None
         }
-        if is_invalid_entry(self.valid_after, found.written()) {
-            return Some(RemovalCause::Explicit);
-        }
-        None
-    }
-
-    // Why a record leaves by the moment of its last read, if it does.
-    fn cause_by_read<K, V>(self, found: &RecordRef<'_, K, V>) -> Option<RemovalCause>
-        ensures cause { result ≡ cause_by_read (tests_in self) found.now }
-        ensures none { IfNone result ((is_past_read (tests_in self) found.now ≡ false)
-            × (is_read_before self.valid_after found.now ≡ false)) }
-    {
-        if is_expired_by_tti(self.time_to_idle, found.read(), self.now) {
-            return Some(RemovalCause::Expired);
-        }
-        if is_invalid_entry(self.valid_after, found.read()) {
-            return Some(RemovalCause::Explicit);
-        }
-        None
     }
 }
 
@@ -198,7 +190,13 @@ fn next_of<K: Eq + Hash, V, S: BuildHasher>(
     match sweep {
         Sweep::Written => store.front_written(),
         Sweep::Read => first_of(store),
-        Sweep::Surplus => first_over(store, tests.capacity),
+        Sweep::Surplus => {
+            if is_over(tests.capacity, store.total_weight()) {
+                first_of(store)
+            } else {
+                None
+            }
+        }
     }
 }
 
@@ -211,24 +209,12 @@ fn first_of<K: Eq + Hash, V, S: BuildHasher>(store: &Store<K, V, S>) -> Option<H
     Some(handle)
 }
 
-// The front of the access list, while the capacity is exceeded.
-fn first_over<K: Eq + Hash, V, S: BuildHasher>(
-    store: &Store<K, V, S>,
-    capacity: Option<u64>,
-) -> Option<Handle>
-    ensures { MatchOption result (IsWithin capacity store.now.access)
-        (λ h. IsMemberAt store.now h
-        × ((is_front h.number store.now.access && is_over capacity store.now.access) ≡ true)) }
-{
-    if !is_over(capacity, store.total_weight()) {
-        return None;
-    }
-    first_of(store)
-}
-
 /// Whether the capacity, if there is one, is exceeded by so much weight.
 pub(crate) fn is_over(capacity: Option<u64>, weight: u128) -> bool
     ensures { (members : List Member) → weight ≡ total_weight members → result ≡ is_over capacity members }
 {
-    capacity.is_some_and(|capacity| weight > u128::from(capacity))
+    match capacity {
+        Some(capacity) => weight > u128::from(capacity),
+        None => false,
+    }
 }

@@ -1,5 +1,5 @@
 -- What a test of the key finds is what the one key that passes has.
-use Rattle.std.proofs.Common.{◌≡◌, refl, ℕ, Bool, true, cond, List, [], ◌∷◌, Option, Some, None, find, ap, sym, ◌∙◌}
+use Rattle.std.proofs.Common.{◌≡◌, refl, ℕ, Bool, true, cond, List, [], ◌∷◌, Some, find, ap, ◌∙◌}
 use Rattle.std.specs.FinMap.{get, values}
 use Rattle.moka_parts.proofs.Types.{Record, Records}
 use Rattle.moka_parts.specs.KeyTests.{record_by}
@@ -21,17 +21,3 @@ module _ {K V : Type 0} (eq : K → K → Bool) (passes : K → Bool) (one_key :
   record_by_found r found =
       let of_any = record_of_key_found (λ (_ : K) k. passes k) records r.key r found in
       of_any
-
-  -- what is found by each key that passes is found by the test
-  pub record_by_each : (o : Option (Record K V)) → ((key : K) → passes key ≡ true → record_of_key eq records key ≡ o) → ((r : Record K V) → o ≡ Some r → passes r.key ≡ true) → record_by passes records ≡ o
-  record_by_each (Some r) each own = record_by_key r.key (own r refl) ∙ each r.key (own r refl)
-  record_by_each None each own = go (record_by passes records) refl
-    where
-      go : (o : Option (Record K V)) → record_by passes records ≡ o → o ≡ None
-      go None at = refl
-      go (Some r) at =
-          let passing = (record_by_found r at).2 in
-          let none = each r.key passing in
-          let same = record_by_key r.key passing in
-          let impossible : Some r ≡ None = sym at ∙ same ∙ none in
-          cc

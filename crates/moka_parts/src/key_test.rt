@@ -18,6 +18,21 @@ pub trait KeyTest<K: Eq + Hash> {
     ghost one_key: { (t : Self) (x y : K) → passes t x ≡ true → passes t y ≡ K.eq x y };
 }
 
+/// A key, as the test that it and what is equal to it pass.
+#[derive(Clone, Copy)]
+pub struct SameKey<'a, K>(pub &'a K);
+
+impl<'a, K: Eq + Hash> KeyTest<K> for SameKey<'a, K> {
+    ghost passes = { λ t. K.eq t.0.now };
+
+    #[inline(always)]
+    fn is_key(&self, key: &K) -> bool {
+        *self.0 == *key
+    }
+
+    ghost one_key = { λ t. K.Eq.laws.congr t.0.now };
+}
+
 /// A text finds the string that has it.
 impl<'a> KeyTest<String> for &'a str {
     ghost use Rattle.std.specs.Str.{bytes_eq};

@@ -9,7 +9,7 @@ use Rattle.moka_parts.specs.declared.policy.Instant.{Instant}
 use Rattle.moka_script.specs.declared.key_range.KeyRange.{KeyRange}
 use Rattle.moka_script.specs.declared.script.calls.LineCall.{LineCall}
 use Rattle.moka_script.specs.declared.script.calls.LineCall.TheVariants as line_call
-use Rattle.moka_script.specs.Lex.{number_of, number_or_none, lone_number, alone, ◌>>=◌}
+use Rattle.moka_script.specs.Lex.{key_at, number_of, number_or_none, lone_number, alone, ◌>>=◌}
 
 -- a call whose value is its bytes
 abbrev pub CallText : Type 0
@@ -33,17 +33,13 @@ call_text (line_call.Other call) = call
 -- `insert KEY VALUE NOW`; the hash is the key
 abbrev pub insert_of : List (List ℕ) → Option CallText
 insert_of (key ∷ value ∷ now ∷ []) = do
-  k ← number_of 32 key
-  n ← number_of 64 now
-  Some (Insert k k value (record { 0 = n }))
+  asked ← key_at key now
+  Some (Insert asked.0 asked.0 value asked.1)
 insert_of _ = None
 
 -- `KEY NOW`
 abbrev pub key_and_moment : List (List ℕ) → Option (ℕ × Instant)
-key_and_moment (key ∷ now ∷ []) = do
-  k ← number_of 32 key
-  n ← number_of 64 now
-  Some (k, record { 0 = n })
+key_and_moment (key ∷ now ∷ []) = key_at key now
 key_and_moment _ = None
 
 -- `send TICKET`
@@ -83,15 +79,18 @@ key_of (key ∷ []) = do
   Some (Key k k)
 key_of _ = None
 
+-- a removal of that key, at a moment if the listener is told
+abbrev pub remove_at : List ℕ → Option Instant → Option CallText
+remove_at key now = do
+  k ← number_of 32 key
+  Some (Remove k k now)
+
 -- `remove KEY`, of which nobody is told, or `remove KEY NOW`, which the listener is told of at that moment
 abbrev pub remove_of : List (List ℕ) → Option CallText
-remove_of (key ∷ []) = do
-  k ← number_of 32 key
-  Some (Remove k k None)
+remove_of (key ∷ []) = remove_at key None
 remove_of (key ∷ now ∷ []) = do
   n ← number_of 64 now
-  k ← number_of 32 key
-  Some (Remove k k (Some (record { 0 = n })))
+  remove_at key (Some (record { 0 = n }))
 remove_of _ = None
 
 -- `invall NOW`
@@ -104,22 +103,23 @@ invall_of arguments = do
 abbrev pub invif_of : List (List ℕ) → Option CallText
 invif_of (low ∷ high ∷ now ∷ []) = do
   l ← number_of 32 low
-  h ← number_of 32 high
-  n ← number_of 64 now
-  Some (InvalidateIf (record { low = l; high = h }) (record { 0 = n }))
+  asked ← key_at high now
+  Some (InvalidateIf (record { low = l; high = asked.0 }) asked.1)
 invif_of _ = None
 
--- `run NOW BATCH`, or `run NOW BATCH LIMIT`: four passes
-abbrev pub run_of : List (List ℕ) → Option CallText
-run_of (now ∷ batch ∷ []) = do
+-- a run of that moment and batch, with a limit in nanoseconds: four passes
+abbrev pub run_at : List ℕ → List ℕ → Option ℕ → Option CallText
+run_at now batch limit = do
   n ← number_of 64 now
   b ← number_of 32 batch
-  Some (Run (record { 0 = n }) None 4 b)
+  Some (Run (record { 0 = n }) (option_map duration_of limit) 4 b)
+
+-- `run NOW BATCH`, or `run NOW BATCH LIMIT`
+abbrev pub run_of : List (List ℕ) → Option CallText
+run_of (now ∷ batch ∷ []) = run_at now batch None
 run_of (now ∷ batch ∷ limit ∷ []) = do
   l ← number_of 64 limit
-  n ← number_of 64 now
-  b ← number_of 32 batch
-  Some (Run (record { 0 = n }) (Some (duration_of l)) 4 b)
+  run_at now batch (Some l)
 run_of _ = None
 
 -- `due NOW`

@@ -5,6 +5,7 @@ use Rattle.std.specs.List.{slice_split, list_all}
 use Rattle.std.specs.Char.{is_ascii_digit}
 use Rattle.std.specs.Str.{bytes_eq}
 use Rattle.std.specs.Str.Parse.{digits_value}
+use Rattle.moka_parts.specs.declared.policy.Instant.{Instant}
 
 -- a byte that may stand in a line
 abbrev pub is_printable : ℕ → Bool
@@ -39,6 +40,13 @@ is_number word = is_some (number_of 64 word)
 infixl 10 ◌>>=◌
 abbrev pub ◌>>=◌ : {A B : Type 0} → Option A → (A → Option B) → Option B
 o >>= f = option_and_then f o
+
+-- the key and the moment that two words say
+abbrev pub key_at : List ℕ → List ℕ → Option (ℕ × Instant)
+key_at key now = do
+  k ← number_of 32 key
+  n ← number_of 64 now
+  Some (k, record { 0 = n })
 
 -- one to ten digits weigh the number that they say, if it is below 2^32, and any other word weighs 1
 abbrev pub weight_of : List ℕ → ℕ

@@ -115,6 +115,12 @@ keeps_some script (text ∷ lines) =
 abbrev pub asks_for_memory : List ℕ → Bool
 asks_for_memory text = keeps_some no_text (lines_of text)
 
+-- what is asked for is added exactly where it may stand, and memory may be refused to a rule, a clock or a call alone
+abbrev pub IsJoined : ScriptText → LineText → Result Bool Failure → ScriptText → Type 0
+IsJoined old asked (Ok is_right) new = joined old asked ≡ (if is_right then Some new else None)
+IsJoined old asked (Err failure.OutOfMemory) new = is_kept (Some asked) ≡ true
+IsJoined old asked (Err _) new = ⊥
+
 -- what a line asks for is added exactly where it is right, and memory may be refused to a rule, a clock or a call alone
 abbrev pub IsAdded : ℕ → ScriptText → List ℕ → Result (Unit {0}) Failure → ScriptText → Type 0
 IsAdded number old text (Ok _) new = with_line old text ≡ Some new

@@ -9,7 +9,7 @@ use Rattle.moka_script.specs.declared.rules.Rule.{Rule}
 use Rattle.moka_script.specs.declared.script.settings.Settings.{Settings}
 use Rattle.moka_script.specs.declared.script.settings.Setting.{Setting}
 use Rattle.moka_script.specs.declared.script.settings.Setting.TheVariants.{First, Capacity, Policy, TimeToLive, TimeToIdle, Weigh, Listener, Invalidator, RepeatedIds, Start, Keeper, Auto}
-use Rattle.moka_script.specs.Lex.{number_of, number_or_none, lone_number, alone, ◌>>=◌}
+use Rattle.moka_script.specs.Lex.{key_at, number_of, number_or_none, lone_number, alone, ◌>>=◌}
 
 -- the ticket of that number, which is not 0
 abbrev pub ticket_of : ℕ → Option ℕ
@@ -47,22 +47,27 @@ abbrev pub ids_of : List (List ℕ) → Option Setting
 ids_of (how ∷ []) = ids_given how
 ids_of _ = None
 
+-- the setting of that name to a number
+abbrev pub numbered_setting : List ℕ → ℕ → Option Setting
+numbered_setting name n =
+    if bytes_eq name (codes "first") then option_map First (ticket_of n)
+    else (if bytes_eq name (codes "capacity") then Some (Capacity n)
+    else (if bytes_eq name (codes "ttl") then Some (TimeToLive n)
+    else (if bytes_eq name (codes "tti") then Some (TimeToIdle n)
+    else (if bytes_eq name (codes "start") then Some (Start n)
+    else None))))
+
 -- the setting of that name
 abbrev pub setting_of : List ℕ → List (List ℕ) → Option Setting
 setting_of name arguments =
-    if bytes_eq name (codes "first") then option_map First (lone_number arguments >>= ticket_of)
-    else (if bytes_eq name (codes "capacity") then option_map Capacity (lone_number arguments)
-    else (if bytes_eq name (codes "policy") then policy_of arguments
-    else (if bytes_eq name (codes "ttl") then option_map TimeToLive (lone_number arguments)
-    else (if bytes_eq name (codes "tti") then option_map TimeToIdle (lone_number arguments)
+    if bytes_eq name (codes "policy") then policy_of arguments
     else (if bytes_eq name (codes "weigh") then alone (Weigh (record {})) arguments
     else (if bytes_eq name (codes "listener") then alone Listener arguments
     else (if bytes_eq name (codes "invalidator") then alone Invalidator arguments
     else (if bytes_eq name (codes "ids") then ids_of arguments
-    else (if bytes_eq name (codes "start") then option_map Start (lone_number arguments)
     else (if bytes_eq name (codes "keeper") then keeper_of arguments
     else (if bytes_eq name (codes "auto") then alone Auto arguments
-    else None)))))))))))
+    else lone_number arguments >>= numbered_setting name))))))
 
 -- the question of that name
 abbrev pub question_named : List ℕ → Option Question
@@ -76,10 +81,9 @@ question_named name =
 abbrev pub rule_of : List (List ℕ) → Option Rule
 rule_of (question ∷ key ∷ moment ∷ answer ∷ []) = do
   q ← question_named question
-  k ← number_of 32 key
-  m ← number_of 64 moment
+  asked ← key_at key moment
   a ← number_or_none answer
-  Some (record { question = q; key = k; moment = m; answer = a })
+  Some (record { question = q; key = asked.0; moment = asked.1.0; answer = a })
 rule_of _ = None
 
 -- the rule of a line of that name

@@ -2,7 +2,9 @@
 ghost use Rattle.std.specs.Prelude.{◌≡◌, ◌≤◌, ◌==◌, length, not, take};
 ghost use Rattle.std.specs.List.{list_all};
 ghost use Rattle.std.specs.Char.{is_ascii_digit};
-ghost use Rattle.moka_script.specs.Lex.{texts, alone, lone_number, words_of, number_of, number_or_none, is_numeral, is_printable};
+ghost use Rattle.moka_script.specs.Lex.{texts, alone, key_at, lone_number, words_of, number_of, number_or_none, is_numeral, is_printable};
+
+use moka_parts::policy::Instant;
 
 /// A number has at most twenty digits.
 const MOST_DIGITS: usize = 20;
@@ -61,6 +63,15 @@ pub fn number_or_none(word: &str) -> Option<Option<u64>>
         "none" => Some(None),
         _ => Some(Some(number(word)?)),
     }
+}
+
+/// The key and the moment that two words say.
+pub fn key_at(key: &str, now: &str) -> Option<(u32, Instant)>
+    ensures { result ≡ key_at key.now now.now }
+{
+    let key = small_number(key)?;
+    let now = Instant(number(now)?);
+    Some((key, now))
 }
 
 /// Tells whether something stands between two spaces.

@@ -30,8 +30,10 @@ pub struct Script {
 }
 
 impl Script {
-    ghost use Rattle.std.specs.Prelude.{◌≡◌};
-    ghost use Rattle.moka_script.specs.Script.{no_text, text_of, IsAdded};
+    ghost use Rattle.std.specs.Prelude.{◌≡◌, Some, None, if◌then◌else◌};
+    ghost use Rattle.moka_script.specs.Clock.{told_readings};
+    ghost use Rattle.moka_script.specs.Script.{no_text, text_of, joined, IsAdded, IsJoined};
+    ghost use Rattle.moka_script.specs.declared.script.Line.TheVariants as line;
 
     /// A script without a line.
     fn new(alloc: Global) -> Script
@@ -45,35 +47,74 @@ impl Script {
         }
     }
 
-    /// Reads the line of that number, and adds what it asks for. Settings, each at most once, rules and the clock come
-    /// before the first call. Only a rule, a clock and a call need memory.
+    /// Reads the line of that number, and adds what it asks for.
     fn read(&mut self, alloc: Global, number: u64, line: &[u8]) -> Result<(), Failure>
         ensures { IsAdded number (text_of self.old) line.now result (text_of self.new) }
     {
         let fault = Failure::BadLine(number);
-        match parse_line(line).ok_or(fault)? {
-            Line::Nothing => {}
-            Line::Setting(setting) => {
-                if !self.calls.is_empty() {
-                    return Err(fault);
-                }
-                self.settings = self.settings.with(setting).ok_or(fault)?;
-            }
-            Line::Rule(rule) => {
-                if !self.calls.is_empty() {
-                    return Err(fault);
-                }
-                self.rules.push(rule)?;
-            }
-            Line::Clock(readings) => {
-                if !self.calls.is_empty() || !self.clock.is_empty() {
-                    return Err(fault);
-                }
-                self.clock = readings.collect(alloc)?;
-            }
-            Line::Call(call) => self.calls.push(call.into_call(alloc)?)?,
+        let Some(asked) = parse_line(line) else {
+            return Err(fault);
+        };
+        match self.add(alloc, asked) {
+            Ok(true) => Ok(()),
+            Ok(false) => Err(fault),
+            Err(failure) => Err(failure),
         }
-        Ok(())
+    }
+
+    /// Adds what a line asks for. Whether it may stand there: settings, each at most once, rules and the clock come
+    /// before the first call. Only a rule, a clock and a call need memory.
+    fn add(&mut self, alloc: Global, asked: ReadLine<'_>) -> Result<bool, Failure>
+        ensures { IsJoined (text_of self.old) (line_text asked.entry) result (text_of self.new) }
+    {
+        match asked {
+            Line::Nothing => Ok(true),
+            Line::Setting(setting) => Ok(self.set(setting)),
+            Line::Rule(rule) => self.add_rule(rule),
+            Line::Clock(readings) => self.set_clock(alloc, readings),
+            Line::Call(call) => {
+                self.calls.push(call.into_call(alloc)?)?;
+                Ok(true)
+            }
+        }
+    }
+
+    /// Sets something. Whether the line may stand there.
+    fn set(&mut self, asked: Setting) -> bool
+        ensures { joined (text_of self.old) (line.Setting asked) ≡ (if result then Some (text_of self.new) else None) }
+    {
+        if !self.calls.is_empty() {
+            return false;
+        }
+        match self.settings.with(asked) {
+            Some(settings) => {
+                self.settings = settings;
+                true
+            }
+            None => false,
+        }
+    }
+
+    /// Adds a rule. Whether the line may stand there.
+    fn add_rule(&mut self, rule: Rule) -> Result<bool, Failure>
+        ensures { IsJoined (text_of self.old) (line.Rule rule) result (text_of self.new) }
+    {
+        if !self.calls.is_empty() {
+            return Ok(false);
+        }
+        self.rules.push(rule)?;
+        Ok(true)
+    }
+
+    /// Sets the clock. Whether the line may stand there.
+    fn set_clock(&mut self, alloc: Global, readings: Readings<'_>) -> Result<bool, Failure>
+        ensures { IsJoined (text_of self.old) (line.Clock (told_readings readings.entry)) result (text_of self.new) }
+    {
+        if !self.calls.is_empty() || !self.clock.is_empty() {
+            return Ok(false);
+        }
+        self.clock = readings.collect(alloc)?;
+        Ok(true)
     }
 }
 

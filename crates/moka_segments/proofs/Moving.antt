@@ -194,25 +194,16 @@ module _ {K V S X L P W C : Type 0} (hash_of : S → K → ℕ) (m : Meaning K V
   get_with makes key now clock clock_after init result =
       by_key key clock clock_after (GetsWith m hash_of key now clock clock_after is_clone (makes init) result)
       (λ hash calls replies. (made : Option V) × (own : Result V (Option (InsertRefused K V))) × ((value : V) → made ≡ Some value → makes init value) × HandsOutMade is_clone key own result × GetsOrInserts key hash now made own calls replies)
-      (λ x y step. (
-      let (made, own, (is, hands, calls, counted, given, back)) = step.step in
-      makes_wide m is_key_clone is_clone (GetsOrInserts key (hash_of x.engine.hasher key) now made own) _ (λ calls replies fit. (made, own, is, hands, fit)) x.engine y.engine clock clock_after calls
-      ))
+      (λ x y (made, own, (is, hands, calls, counted, given, back)). makes_wide m is_key_clone is_clone (GetsOrInserts key (hash_of x.engine.hasher key) now made own) _ (λ calls replies fit. (made, own, is, hands, fit)) x.engine y.engine clock clock_after calls)
 
   pub get_with_if_made : {M : Type 0} (makes : M → Option V → Type 0) → GetWithIfMadeIsMove hash_of m is_key_clone is_clone makes
   get_with_if_made makes key now clock clock_after init result =
       by_key key clock clock_after (GetsWithIfMade m hash_of key now clock clock_after is_clone (makes init) result)
       (λ hash calls replies. (made : Option (Option V)) × (own : Result (Option V) (Option (InsertRefused K V))) × ((answer : Option V) → made ≡ Some answer → makes init answer) × HandsOutIfMade is_clone key own result × GetsOrInsertsIfMade key hash now made own calls replies)
-      (λ x y step. (
-      let (made, own, (is, hands, calls, counted, given, back)) = step.step in
-      makes_wide m is_key_clone is_clone (GetsOrInsertsIfMade key (hash_of x.engine.hasher key) now made own) _ (λ calls replies fit. (made, own, is, hands, fit)) x.engine y.engine clock clock_after calls
-      ))
+      (λ x y (made, own, (is, hands, calls, counted, given, back)). makes_wide m is_key_clone is_clone (GetsOrInsertsIfMade key (hash_of x.engine.hasher key) now made own) _ (λ calls replies fit. (made, own, is, hands, fit)) x.engine y.engine clock clock_after calls)
 
   pub get_with_if_no_error : {M E : Type 0} (makes : M → Result V E → Type 0) → GetWithIfNoErrorIsMove hash_of m is_key_clone is_clone makes
   get_with_if_no_error {E = E} makes key now clock clock_after init result =
       by_key key clock clock_after (GetsWithIfNoError m hash_of key now clock clock_after is_clone (makes init) result)
       (λ hash calls replies. (made : Option (Result V E)) × (own : Result (Result V E) (Option (InsertRefused K V))) × ((answer : Result V E) → made ≡ Some answer → makes init answer) × HandsOutIfNoError is_clone key own result × GetsOrInsertsIfNoError key hash now made own calls replies)
-      (λ x y step. (
-      let (made, own, (is, hands, calls, counted, given, back)) = step.step in
-      makes_wide m is_key_clone is_clone (GetsOrInsertsIfNoError key (hash_of x.engine.hasher key) now made own) _ (λ calls replies fit. (made, own, is, hands, fit)) x.engine y.engine clock clock_after calls
-      ))
+      (λ x y (made, own, (is, hands, calls, counted, given, back)). makes_wide m is_key_clone is_clone (GetsOrInsertsIfNoError key (hash_of x.engine.hasher key) now made own) _ (λ calls replies fit. (made, own, is, hands, fit)) x.engine y.engine clock clock_after calls)

@@ -52,17 +52,19 @@ module _ {K V S X L P W C : Type 0} (m : Meaning K V X L P W C (Unit {0})) (hash
     pub counted : new.stats ≡ old.stats
 
   -- a get, and where it misses an insert of the value that the maker made
-  pub record GetsWith (is_clone : V → V → Type 0) (Made : V → Type 0) (result : Result V (GetWithRefused K V))
-      (old new : Synchronous K V S X L P W) : Type 0 where
-    pub step : own.GetsWith m is_clone key (hash_of old.engine.hasher key) now old clock new clock_after Made result
+  abbrev pub GetsWith : (V → V → Type 0) → (V → Type 0) → Result V (GetWithRefused K V) → Synchronous K V S X L P W →
+      Synchronous K V S X L P W → Type 0
+  GetsWith is_clone Made result old new =
+      own.GetsWith m is_clone key (hash_of old.engine.hasher key) now old clock new clock_after Made result
 
   -- the same where the maker may decline
-  pub record GetsWithIfMade (is_clone : V → V → Type 0) (Made : Option V → Type 0)
-      (result : Result (Option V) (GetWithRefused K V)) (old new : Synchronous K V S X L P W) : Type 0 where
-    pub step : own.GetsWithIfMade m is_clone key (hash_of old.engine.hasher key) now old clock new clock_after Made result
+  abbrev pub GetsWithIfMade : (V → V → Type 0) → (Option V → Type 0) → Result (Option V) (GetWithRefused K V) →
+      Synchronous K V S X L P W → Synchronous K V S X L P W → Type 0
+  GetsWithIfMade is_clone Made result old new =
+      own.GetsWithIfMade m is_clone key (hash_of old.engine.hasher key) now old clock new clock_after Made result
 
   -- or fail
-  pub record GetsWithIfNoError {E : Type 0} (is_clone : V → V → Type 0) (Made : Result V E → Type 0)
-      (result : Result (Result V E) (GetWithRefused K V)) (old new : Synchronous K V S X L P W) : Type 0 where
-    pub step : own.GetsWithIfNoError m is_clone key (hash_of old.engine.hasher key) now old clock new clock_after Made
-        result
+  abbrev pub GetsWithIfNoError : {E : Type 0} → (V → V → Type 0) → (Result V E → Type 0) →
+      Result (Result V E) (GetWithRefused K V) → Synchronous K V S X L P W → Synchronous K V S X L P W → Type 0
+  GetsWithIfNoError is_clone Made result old new =
+      own.GetsWithIfNoError m is_clone key (hash_of old.engine.hasher key) now old clock new clock_after Made result

@@ -124,6 +124,9 @@ module _ {K V : Type 0} where
     pub stored-whole : stored_at (whole_rows rows colds) place ≡ option_map (λ f. joined (number_at rows place) f (cold_at colds place)) (stored_at rows place)
     stored-whole = reads-whole (option_and_then (λ row. row.stored)) (λ o. option_map (λ f. joined (option_map_or (λ row. row.number) o 0) f (cold_at colds place)) (option_and_then (λ row. row.stored) o)) refl (λ row. refl)
 
+    pub key-whole : option_map (λ r. r.key) (stored_at (whole_rows rows colds) place) ≡ option_map (λ f. f.hot.key) (stored_at rows place)
+    key-whole = reads-whole (λ o. option_map (λ r. r.key) (option_and_then (λ row. row.stored) o)) (λ o. option_map (λ f. f.hot.key) (option_and_then (λ row. row.stored) o)) refl (λ row. elim row.stored as (λ o. option_map (λ r. r.key) (option_map (λ f. joined row.number f (cold_at colds place)) o) ≡ option_map (λ f. f.hot.key) o) [ None ↦ refl | Some f ↦ refl ])
+
     -- the membership of a front, with the weight beside it
     pub membership-whole : membership_at (whole_rows rows colds) place ≡ option_map (counted_as (cold_at colds place).counted) (membership_at rows place)
     membership-whole = reads-whole (option_and_then (λ row. row.membership)) (λ o. option_map (counted_as (cold_at colds place).counted) (option_and_then (λ row. row.membership) o)) refl (λ row. refl)

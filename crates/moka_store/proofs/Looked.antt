@@ -2,9 +2,7 @@
 use Rattle.std.proofs.Common.{◌≡◌, ℕ, Bool, true, false, List, Option, Some, None, IsSome, refl, sym, ap, ◌∙◌}
 use Rattle.std.proofs.lemmas.Bool.{false≢true}
 use Rattle.std.specs.Option.{option_map_or}
-use Rattle.moka_parts.specs.declared.records.Record.{Record}
 use Rattle.moka_store.specs.RecordTable.{Row, row_at, number_at, stored_at}
-use Rattle.moka_store.specs.StoreRows.{has_key_at, passes_at}
 use Rattle.moka_store.proofs.TableMaps.{read-of}
 
 module _ {R : Type 0} (rows : List (Option (Row R))) (place number : ℕ) where
@@ -24,7 +22,3 @@ module _ {R : Type 0} (rows : List (Option (Row R))) (place number : ℕ) where
 pub stored_passes : {R : Type 0} (passes : R → Bool) (o : Option R) → option_map_or passes o false ≡ true → IsSome o
 stored_passes passes None passing = absurd (false≢true passing)
 stored_passes passes (Some r) passing = refl
-
--- where the keys equal to this one pass, a place passes that has it
-pub passes-as_key : {K V : Type 0} (eq : K → K → Bool) (passes : K → Bool) (key : K) → ((y : K) → passes y ≡ eq key y) → (rows : List (Option (Row (Record K V)))) (place : ℕ) → passes_at passes rows place ≡ has_key_at eq rows key place
-passes-as_key eq passes key same rows place = elim (stored_at rows place) as (λ o. option_map_or (λ r. passes r.key) o false ≡ option_map_or (λ r. eq key r.key) o false) [ None ↦ refl | Some r ↦ same r.key ]

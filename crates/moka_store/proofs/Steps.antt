@@ -27,11 +27,12 @@ use Rattle.moka_store.specs.Listing.{Listing}
 use Rattle.moka_store.specs.Timing.{Timing}
 use Rattle.moka_store.specs.declared.store.Handle.{Handle}
 use Rattle.moka_store.specs.Store.{IsOneEach, IsHandle, ChangesRecord}
-use Rattle.moka_store.specs.StoreRows.{key_in, key_at, has_key_at, access_in, access_at, member_in, member_at}
+use Rattle.moka_store.specs.StoreRows.{key_in, key_at, passes_at, access_in, access_at, member_in, member_at}
 use Rattle.moka_store.specs.StoreTies.{AreNarrow, KeyIndex, IsListed, IsIndex, IsTied, IsWritten, IsTimed, IsStore, kept_of}
 use Rattle.moka_store.specs.Weights.{IsWeighed}
 use Rattle.moka_parts.specs.declared.records.Member.{Member}
 use Rattle.moka_parts.specs.declared.records.Record.{Record}
+use Rattle.moka_parts.specs.KeyTests.{record_by}
 use Rattle.moka_parts.specs.Records.{member, counted_of, record_of_key, without_member, to_back}
 
 -- the parts belong together, and the list stands for these members
@@ -84,16 +85,16 @@ module _ {K V : Type 0} (eq : K → K → Bool) (rows : List (Option (Row (Recor
         cc;
   }
 
-  -- a key that is at no place under its hash has no record
-  pub record-of-absent : (key : K) → ((x : K) → eq key x ≡ true → index.hash_of x ≡ index.hash_of key) → ((p : ℕ) → get index.entries p ≡ Some (index.hash_of key) → has_key_at eq rows key p ≡ false) → record_of_key eq (records_of rows) key ≡ None
-  record-of-absent key alike none = elim (option-cases (record_of_key eq (records_of rows) key)) as (λ _. record_of_key eq (records_of rows) key ≡ None) [
+  -- a test that no place under its hash passes finds nothing
+  pub record-of-absent : (passes : K → Bool) (hash : ℕ) → ((k : K) → passes k ≡ true → hash ≡ index.hash_of k) → ((p : ℕ) → get index.entries p ≡ Some hash → passes_at passes rows p ≡ false) → record_by passes (records_of rows) ≡ None
+  record-of-absent passes hash hashed none = elim (option-cases (record_by passes (records_of rows))) as (λ _. record_by passes (records_of rows) ≡ None) [
     | inl e ↦ e
     | inr r ↦
-        let w = record_of_key_found eq (records_of rows) key r.0 r.1 in
+        let w = record_of_key_found (λ (_ : K). passes) (records_of rows) r.0.key r.0 r.1 in
         let v = record_row rows t.numbered w.0 r.0 w.1 in
         let there = key-there v.0 v.1 r.0 v.2 v.4 in
-        let never = none v.0 (t.indexed.at v.0 ∙ ap (option_map index.hash_of) there ∙ ap Some (alike r.0.key w.2)) in
-        let test = ap (λ o. option_map_or (λ (r : Record K V). eq key r.key) o false) (ap (option_and_then (λ (row : Row (Record K V)). row.stored)) v.2 ∙ v.4) in
+        let never = none v.0 (t.indexed.at v.0 ∙ ap (option_map index.hash_of) there ∙ ap Some (sym (hashed r.0.key w.2))) in
+        let test = ap (λ o. option_map_or (λ (r : Record K V). passes r.key) o false) (ap (option_and_then (λ (row : Row (Record K V)). row.stored)) v.2 ∙ v.4) in
         cc
   ]
 

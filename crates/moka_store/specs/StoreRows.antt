@@ -17,10 +17,6 @@ module _ {K V : Type 0} where
   abbrev pub key_at : List (Option (Row (Record K V))) → ℕ → Option K
   key_at rows place = option_and_then key_in (row_at rows place)
 
-  -- whether the record at a place has an equal key
-  abbrev pub has_key_at : (K → K → Bool) → List (Option (Row (Record K V))) → K → ℕ → Bool
-  has_key_at eq rows key place = option_map_or (λ r. eq key r.key) (stored_at rows place) false
-
   -- whether the key of the record at a place passes
   abbrev pub passes_at : (K → Bool) → List (Option (Row (Record K V))) → ℕ → Bool
   passes_at passes rows place = option_map_or (λ r. passes r.key) (stored_at rows place) false

@@ -20,6 +20,7 @@ use crate::write_list::WriteList;
 pub use changes::MOST_PLACES;
 pub use hashing::IndexHash;
 use moka_index::PlaceIndex;
+use moka_parts::key_test::SameKey;
 use moka_parts::policy::Instant;
 use moka_parts::record_ref::RecordRef;
 use moka_parts::records::Record;
@@ -183,10 +184,7 @@ impl<K: Eq + Hash, V, S: BuildHasher> Store<K, V, S> {
             (λ f. IsIndexHash S.BuildHasher S.Hasher.Hasher self.now.hasher (K.hash_input f.1.key) hash) }
         ensures one_each { IsOneEach K.eq self.now.records }
     {
-        let table = &self.table;
-        let is_match = |place| changes::has_key(table, place, key);
-        let place = self.index.find(hash.0, is_match)?;
-        Some(changes::live_at(table, place))
+        self.find_by(&SameKey(key), hash)
     }
 
     /// The record at this handle, if it is still there.
@@ -343,7 +341,7 @@ impl<K: Eq + Hash, V, S: BuildHasher> Store<K, V, S> {
         requires { IsPlaced self.now handle }
         ensures { result ≡ is_settled self.now.records handle.number }
     {
-        self.find(handle).is_some_and(|found| found.is_settled())
+        matches!(self.find(handle), Some(found) if found.is_settled())
     }
 
     /// The number at this handle comes to the back of both orders, with this weight. It takes no memory.

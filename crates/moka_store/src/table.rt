@@ -143,7 +143,7 @@ impl<K, V> RecordTable<K, V> {
     pub fn number(&self, place: usize) -> Option<u64>
         ensures { result ≡ option_map (λ row. row.number) (row_at self.now.rows place) }
     {
-        self.rows.number(place)
+        self.rows.at(place)?.number()
     }
 
     /// The number and the record at this place, if the record is in the map.
@@ -153,7 +153,7 @@ impl<K, V> RecordTable<K, V> {
         ensures stored { option_map (λ f. f.1) result ≡ stored_at self.now.rows place }
         ensures apart { IsNumbered (row_at self.now.rows) }
     {
-        let (number, front) = self.rows.live(place)?;
+        let (number, front) = self.rows.at(place)?.live()?;
         let (hot, cold) = (front.hot, &self.cold[place]);
         let found = RecordRef::new(number, hot, front.expiring, cold);
         Some((number, found))
@@ -164,7 +164,7 @@ impl<K, V> RecordTable<K, V> {
     pub fn key(&self, place: usize) -> Option<&K>
         ensures { option_copied result ≡ option_map (λ r. r.key) (stored_at self.now.rows place) }
     {
-        self.rows.key(place)
+        self.rows.at(place)?.key()
     }
 
     /// The record at this place.
@@ -254,7 +254,7 @@ impl<K, V> RecordTable<K, V> {
         ensures membership { result ≡ membership_at self.now.rows place }
         ensures slots { IfSome result HasSlots }
     {
-        let found = self.rows.membership(place)?;
+        let found = self.rows.at(place)?.membership()?;
         membership::counted_as(self.cold[place].counted, Some(found))
     }
 
@@ -264,7 +264,7 @@ impl<K, V> RecordTable<K, V> {
         ensures timer { result ≡ option_and_then (λ row. row.timer) (row_at self.now.rows place) }
         ensures slot { IsSlot result }
     {
-        self.rows.timer(place)
+        self.rows.at(place)?.timer()
     }
 
     /// The weight that is counted for the member at this place.
@@ -272,7 +272,7 @@ impl<K, V> RecordTable<K, V> {
     pub fn counted(&self, place: usize) -> Option<u32>
         ensures { result ≡ option_map (λ m. m.counted) (membership_at self.now.rows place) }
     {
-        self.membership(place).map(|m| m.counted)
+        Some(self.membership(place)?.counted)
     }
 
     /// Another weight for the member at this place.

@@ -17,7 +17,11 @@ fn find(index: &PlaceIndex, hash: u32, wanted: Option<usize>) -> Option<usize> {
 // What is found under a hash, of a place that is wanted or of any.
 fn check_found(rt: &impl Abort, index: &PlaceIndex, cases: &[(u32, Option<usize>, Option<usize>)]) {
     for &(hash, wanted, found) in cases {
-        assert_eq!(rt; find(index, hash, wanted), found, "{hash}, {wanted:?}");
+        assert_equal(
+            rt,
+            (hash, wanted, find(index, hash, wanted)),
+            (hash, wanted, found),
+        );
     }
 }
 

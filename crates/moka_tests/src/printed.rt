@@ -1,6 +1,6 @@
 //! What is printed.
 use crate::equal::assert_equal;
-use std::fmt::Display;
+use std::fmt::{Debug, Display};
 use std::process::Abort;
 use std::test::Fail;
 
@@ -12,5 +12,17 @@ pub(crate) fn check<R: Abort + AllocGlobal, D: Display>(
 ) -> Result<(), Fail> {
     let printed = format!(in rt.alloc(); "{value}")?;
     assert_equal(rt, printed.as_str(), text);
+    Ok(())
+}
+
+/// Prints each value as `Debug` does, which gives the text beside it.
+pub(crate) fn check_all<R: Abort + AllocGlobal, D: Debug>(
+    rt: &R,
+    cases: &[(D, &str)],
+) -> Result<(), Fail> {
+    for (value, text) in cases {
+        let printed = format!(in rt.alloc(); "{value:?}")?;
+        assert_equal(rt, printed.as_str(), *text);
+    }
     Ok(())
 }

@@ -18,7 +18,7 @@ fn lengths_and_capacities(rt: HostRuntime) {
         (1073741823, 1073741824),
         (18446744073709551615, 1073741824),
     ] {
-        assert_eq!(rt; table_len_for(size), length, "at {size}");
+        assert_equal(&rt, (size, table_len_for(size)), (size, length));
     }
     for (capacity, size) in [
         (0, 128),
@@ -27,7 +27,7 @@ fn lengths_and_capacities(rt: HostRuntime) {
         (4294967295, 4294967295),
         (4294967296, 4294967295),
     ] {
-        assert_eq!(rt; sketch_capacity(capacity), size, "at {capacity}");
+        assert_equal(&rt, (capacity, sketch_capacity(capacity)), (capacity, size));
     }
 }
 
@@ -39,11 +39,8 @@ fn check_state(
     state: (usize, u8),
     when: &str,
 ) {
-    assert_eq!(rt;
-        (sketch.table_len(), sketch.frequency(hash)),
-        state,
-        "{when}"
-    );
+    let found = (sketch.table_len(), sketch.frequency(hash));
+    assert_equal(rt, (when, found), (when, state));
 }
 
 #[test]
@@ -137,7 +134,7 @@ fn agrees_with_plain_counters(rt: HostRuntime) -> Result<(), Fail> {
         plain.ensure_capacity(length)?;
         count_by_both(&rt, &mut packed, &mut plain);
         let total = sum_by_both(&rt, &packed, &plain);
-        assert_eq!(rt; total, sum, "at length {length}");
+        assert_equal(&rt, (length, total), (length, sum));
     }
     Ok(())
 }

@@ -1,6 +1,7 @@
 //! Tests of `moka_wheel`.
 ghost use Rattle.std.specs.Prelude.{◌≤◌};
 
+use crate::equal::assert_equal;
 use moka_wheel::TimerWheel;
 use std::process::Abort;
 use std::test::Fail;
@@ -19,7 +20,7 @@ fn check_due(rt: &impl Abort, wheel: &mut TimerWheel, cases: &[(u64, Option<u64>
     ensures { wheel.old.room ≤ wheel.new.room }
 {
     for &(now, number) in cases {
-        assert_eq!(rt; next_due(wheel, now), number, "at {now}");
+        assert_equal(rt, (now, next_due(wheel, now)), (now, number));
     }
 }
 

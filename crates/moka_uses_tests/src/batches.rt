@@ -8,9 +8,9 @@ use std::test::Fail;
 
 const NOW: Instant = Instant(0);
 
-/// What is found of keys 1 to 4.
+/// What is found of the keys 3, 4, 1 and 2, in this order.
 fn found(alloc: Global, cache: &mut Cache<u64, u64>) -> Result<Vec<Option<u64>>, Fail> {
-    match ask(alloc, cache, &[1, 2, 3, 4], NOW, &mut FixedClock(NOW)) {
+    match ask(alloc, cache, &[3, 4, 1, 2], NOW, &mut FixedClock(NOW)) {
         Ok(found) => Ok(found),
         Err(_) => Err("memory".into()),
     }
@@ -21,10 +21,10 @@ fn check(rt: &impl Abort, alloc: Global, cache: &mut Cache<u64, u64>) -> Result<
     let rows = vec![in alloc; (1, 10), (2, 20), (3, 30)]?;
     assert!(rt; load(cache, rows, NOW, clock).is_ok());
     let all = found(alloc, cache)?;
-    assert!(rt; matches!(all.as_slice(), [Some(10), Some(20), Some(30), None]));
+    assert!(rt; matches!(all.as_slice(), [Some(30), None, Some(10), Some(20)]));
     assert!(rt; drop_all(cache, &[1, 2], NOW, clock).is_ok());
     let left = found(alloc, cache)?;
-    assert!(rt; matches!(left.as_slice(), [None, None, Some(30), None]));
+    assert!(rt; matches!(left.as_slice(), [Some(30), None, None, None]));
     Ok(())
 }
 

@@ -7,11 +7,12 @@ ghost use Rattle.moka_parts.specs.Housekeeping.{is_due};
 ghost use Rattle.moka_parts.specs.KeyTests.{ContainsByStep, GetByStep, RemoveByStep, record_by};
 ghost use Rattle.moka_parts.specs.Runs.{Befalls};
 ghost use Rattle.moka_parts.specs.Surroundings.{Leads};
-ghost use Rattle.moka_parts.specs.declared.records.ReadOperation.TheVariants.{Hit};
+ghost use Rattle.moka_parts.specs.declared.records.ReadOperation.TheVariants as operation;
 ghost use Rattle.moka_store.specs.Hashing.{IsIndexHash};
 ghost use Rattle.moka_engine.specs.Makes.{Takes};
 
-use super::{BaseCache, Look, ReadHit};
+use super::BaseCache;
+use super::gets::Hit;
 use moka_inner::Hashes;
 use moka_parts::calls::{Entry, KvEntry, Ticket};
 use moka_parts::closures::{NoTest, PredicateFn, Weigher};
@@ -22,21 +23,6 @@ use moka_parts::notification::Listener;
 use moka_parts::policy::{Expiry, Instant};
 use moka_store::IndexHash;
 use std::hash::{BuildHasher, Hash};
-
-// A key, as the test that it and what is equal to it pass.
-#[derive(Clone, Copy)]
-pub(super) struct SameKey<'a, K>(pub(super) &'a K);
-
-impl<'a, K: Eq + Hash> KeyTest<K> for SameKey<'a, K> {
-    ghost passes = { λ t k. K.eq t.0.now k };
-
-    #[inline(always)]
-    fn is_key(&self, key: &K) -> bool {
-        *self.0 == *key
-    }
-
-    ghost one_key = { λ t. K.Eq.laws.congr t.0.now };
-}
 
 impl<
     K: Eq + Hash,
@@ -108,23 +94,19 @@ impl<
             self.old self.new (λ e. Leads C.reads clock.old e.readings clock.new)) result }
     {
         let own = IndexHash::of(hash);
-        let look = Look {
-            test,
-            hashes: Hashes { hash, own },
-            need_key,
-            now,
-        };
-        self.get_hashed(look, &mut NoTest, clock)
+        let sought = (test, Hashes { hash, own });
+        self.get_hashed(sought, need_key, now, &mut NoTest, clock)
     }
 
-    // Makes the run that is due, and queues a hit of the record whose key passes. The run may remove that record, so
-    // its place is looked up again.
+    // Makes the run that is due, and queues a hit of the record whose key passes, with its number and first hash. The
+    // run may remove that record, so its place is looked up again.
     #[inline(always)]
     pub(super) fn record_hit_by<T: KeyTest<K>, C: Clock>(
         &mut self,
         sought: (&T, IndexHash),
-        hit: ReadHit,
-        now: Instant,
+        number: u64,
+        hash: u64,
+        hit: Hit,
         clock: &mut C,
     )
     where
@@ -133,15 +115,15 @@ impl<
         P: Drop,
         requires own { (k : K) → T.passes sought.0.now k ≡ true
             → IsIndexHash S.BuildHasher S.Hasher.Hasher self.old.hasher (K.hash_input k) sought.1 }
-        requires due { is_due self.old.state.housekeeping (length self.old.state.reads) now.0 ≡ true }
+        requires due { is_due self.old.state.housekeeping (length self.old.state.reads) hit.read.0 ≡ true }
         requires found { option_map (λ r. r.number)
-            (record_by (T.passes sought.0.now) self.old.state.records) ≡ Some hit.number }
+            (record_by (T.passes sought.0.now) self.old.state.records) ≡ Some number }
         ensures { Takes P.says X.read L.tells
-            (λ Runs s. RecordsRead Runs s now.0 (Hit hit.number hit.hash hit.renewed)) self.old self.new
+            (λ Runs s. RecordsRead Runs s hit.read.0 (operation.Hit number hash hit.is_renewed)) self.old self.new
             (λ e. Leads C.reads clock.old e.readings clock.new) }
     {
-        self.run_by_housekeeper(now, clock);
+        self.run_by_housekeeper(hit.read, clock);
         self.inner
-            .queue_hit_by(sought, hit.number, hit.hash, hit.renewed);
+            .queue_hit_by(sought, number, hash, hit.is_renewed);
     }
 }

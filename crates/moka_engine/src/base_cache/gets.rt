@@ -47,7 +47,8 @@ impl<'a, X> Moments<'a, X> {
         ensures { result ≡ lapsed (expiring_by self.entry.now.policy.now) self.entry.now.valid_after.now
             found.now self.entry.now.now.0 }
     {
-        let (policy, valid_after) = (self.policy, *self.valid_after);
+        let policy = self.policy;
+        let valid_after = *self.valid_after;
         let may_hide = policy.is_set() | valid_after.is_some();
         may_hide && has_lapsed(found, policy, valid_after, self.now)
     }
@@ -133,11 +134,11 @@ pub(super) fn hit_of<K, V, X: Expiry<K, V>>(
             is_renewed: false,
         };
     };
-    let (expires, written) = (found.expires(), found.written());
+    let written = found.written();
     let read = now.max(written);
     let left = left_at(found, policy, read);
     let answer = expiry.expire_after_read(found.key(), found.value(), read, left, written);
-    let (expires, is_renewed) = renewed(expires, left, answer, read);
+    let (expires, is_renewed) = renewed(found.expires(), left, answer, read);
     Hit {
         read,
         expires,
@@ -192,7 +193,8 @@ fn left_at<K, V, X>(
         ≡ time_left policy.now.time_to_live policy.now.time_to_idle
         (moment_of found.now.expires) found.now.written.0 found.now.read.0 read.0 }
 {
-    let (live, idle) = (policy.time_to_live(), policy.time_to_idle());
+    let live = policy.time_to_live();
+    let idle = policy.time_to_idle();
     remaining(
         found.expires(),
         found.written(),
@@ -203,19 +205,29 @@ fn left_at<K, V, X>(
     )
 }
 
-// A clone of the record's value, with one of its key if that is asked for.
+// A clone of the record's value, with one of its key if that is asked for; the record's first hash; and what a hit makes
+// of it.
 #[inline(always)]
-pub(super) fn entry_of<K: Clone, V: Clone>(
+pub(super) fn entry_and_hit<K: Clone, V: Clone, X: Expiry<K, V>>(
     found: &RecordRef<'_, K, V>,
     need_key: bool,
-) -> Result<Entry<K, V>, OutOfMemory>
-    ensures { IfOk result (IsEntryCopy K.is_clone V.is_clone (entry_at need_key found.now)) }
+    moments: &Moments<'_, X>,
+) -> Result<(Entry<K, V>, u64, Hit), OutOfMemory>
+    ensures { IfOk result (λ a. IsEntryCopy K.is_clone V.is_clone (entry_at need_key found.now) a.0
+        × (a.1 ≡ found.now.hash)
+        × Touches X.read moments.entry.now.policy.now found.now moments.entry.now.now.0 a.2.read.0 a.2.expires a.2.is_renewed) }
 {
-    let value = found.value().clone()?;
+    let Ok(value) = found.value().clone() else {
+        return Err(OutOfMemory);
+    };
     let key = if need_key {
-        Some(found.key().clone()?)
+        let Ok(key) = found.key().clone() else {
+            return Err(OutOfMemory);
+        };
+        Some(key)
     } else {
         None
     };
-    Ok(Entry { key, value })
+    let hit = hit_of(found, moments.policy, moments.now);
+    Ok((Entry { key, value }, found.hash(), hit))
 }

@@ -12,15 +12,14 @@ ghost use Rattle.moka_store.specs.Hashing.{IsIndexHash};
 ghost use Rattle.moka_engine.specs.Looks.{LooksUp, value_of};
 ghost use Rattle.moka_engine.specs.Makes.{Takes};
 
-use super::by_key_test::SameKey;
+use super::BaseCache;
 use super::gets::{self, Moments};
-use super::{BaseCache, Look, ReadHit};
 use moka_inner::Hashes;
 use moka_parts::calls::Entry;
 use moka_parts::closures::{NoTest, PredicateFn, ValueTest, Weigher};
 use moka_parts::error::OutOfMemory;
 use moka_parts::housekeeper::Clock;
-use moka_parts::key_test::KeyTest;
+use moka_parts::key_test::{KeyTest, SameKey};
 use moka_parts::notification::Listener;
 use moka_parts::policy::{Expiry, Instant};
 use std::hash::{BuildHasher, Hash};
@@ -65,13 +64,8 @@ impl<
         match ignore_if {
             Some(test) => {
                 let own = self.inner.index_hash(key);
-                let look = Look {
-                    test: &SameKey(key),
-                    hashes: Hashes { hash, own },
-                    need_key,
-                    now,
-                };
-                self.get_hashed(look, test, clock)
+                let sought = (&SameKey(key), Hashes { hash, own });
+                self.get_hashed(sought, need_key, now, test, clock)
             }
             None => self.get_with_hash(key, hash, need_key, now, clock),
         }
@@ -81,7 +75,9 @@ impl<
     #[inline(always)]
     pub(super) fn get_hashed<T: KeyTest<K>, I: ValueTest<V>, C: Clock>(
         &mut self,
-        look: Look<'_, T>,
+        sought: (&T, Hashes),
+        need_key: bool,
+        now: Instant,
         ignore_if: &mut I,
         clock: &mut C,
     ) -> Result<Option<Entry<K, V>>, OutOfMemory>
@@ -89,45 +85,35 @@ impl<
         K: Clone + Drop,
         V: Clone + Drop,
         P: Drop,
-        requires own { (k : K) → T.passes look.test.now k ≡ true
-            → IsIndexHash S.BuildHasher S.Hasher.Hasher self.old.hasher (K.hash_input k) look.hashes.own }
+        requires own { (k : K) → T.passes sought.0.now k ≡ true
+            → IsIndexHash S.BuildHasher S.Hasher.Hasher self.old.hasher (K.hash_input k) sought.1.own }
         requires askable { (v : V) → I.can_ask ignore_if.old v }
         ensures { (ignored : Bool)
             × IsAskedOnce I.asks (Some ignore_if.old)
-            (value_of (record_by (T.passes look.entry.test.now) self.old.state.records)) ignored (Some ignore_if.new)
+            (value_of (record_by (T.passes sought.entry.0.now) self.old.state.records)) ignored (Some ignore_if.new)
             × HandsOut (IsEntryCopy K.is_clone V.is_clone)
             (λ own. Takes P.says X.read L.tells
-            (λ Runs s. LooksUp P.says X.read (record_by (T.passes look.entry.test.now)) look.entry.hashes.hash
-            look.entry.need_key ignored look.entry.now.0 Runs s own)
+            (λ Runs s. LooksUp P.says X.read (record_by (T.passes sought.entry.0.now)) sought.entry.1.hash
+            need_key ignored now.0 Runs s own)
             self.old self.new (λ e. Leads C.reads clock.old e.readings clock.new)) result }
     {
-        let Look {
-            test,
-            hashes,
-            need_key,
-            now,
-        } = look;
-        let policy = &self.expiration_policy;
+        let (test, Hashes { hash: given, own }) = sought;
         let moments = Moments {
-            policy,
+            policy: &self.expiration_policy,
             valid_after: &self.valid_after,
             now,
         };
-        let sought = (test, hashes.own);
+        let sought = (test, own);
         let shown = gets::find_unless(&self.inner, &moments, &self.invalidator, sought, ignore_if);
         let Some((handle, found)) = shown else {
-            self.record_miss(hashes.hash, now, clock);
+            self.record_miss(given, now, clock);
             return Ok(None);
         };
-        let entry = gets::entry_of(&found, need_key)?;
-        let (hash, hit) = (found.hash(), gets::hit_of(&found, policy, now));
+        let Ok((entry, hash, hit)) = gets::entry_and_hit(&found, need_key, &moments) else {
+            return Err(OutOfMemory);
+        };
         if gets::note_hit(&mut self.inner, &self.housekeeper, handle, hash, hit) {
-            let read = ReadHit {
-                number: handle.number,
-                hash,
-                renewed: hit.is_renewed,
-            };
-            self.record_hit_by(sought, read, hit.read, clock);
+            self.record_hit_by(sought, handle.number, hash, hit, clock);
             return Ok(Some(entry));
         }
         Ok(Some(entry))
@@ -179,20 +165,20 @@ impl<
             (λ a. PeekStep P.says X.read K.eq self.old.state key.now ignored now.0 a self.new.state) result
             × Befalls L.tells no_events self.old self.new }
     {
-        let own = self.inner.index_hash(key);
-        let policy = &self.expiration_policy;
         let moments = Moments {
-            policy,
+            policy: &self.expiration_policy,
             valid_after: &self.valid_after,
             now,
         };
-        let sought = (&SameKey(key), own);
+        let sought = (&SameKey(key), self.inner.index_hash(key));
         let shown = gets::find_unless(&self.inner, &moments, &self.invalidator, sought, test);
         let Some((handle, found)) = shown else {
             return Ok(None);
         };
-        let value = found.value().clone()?;
-        let hit = gets::hit_of(&found, policy, now);
+        let Ok(value) = found.value().clone() else {
+            return Err(OutOfMemory);
+        };
+        let hit = gets::hit_of(&found, moments.policy, now);
         self.inner
             .touch(handle, hit.read, hit.expires, hit.is_renewed);
         Ok(Some(value))
@@ -214,6 +200,9 @@ impl<
         let Some((_, found)) = shown else {
             return Ok(None);
         };
-        Ok(Some(found.value().clone()?))
+        match found.value().clone() {
+            Ok(value) => Ok(Some(value)),
+            Err(_) => Err(OutOfMemory),
+        }
     }
 }

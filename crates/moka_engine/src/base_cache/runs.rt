@@ -87,20 +87,20 @@ impl<
             valid_after: self.valid_after,
             capacity: self.max_capacity,
         };
-        let has_weigher = self.weigher.is_some();
         let bounds = Bounds {
             capacity: self.max_capacity,
             policy: self.eviction_policy,
-            has_weigher,
+            has_weigher: self.weigher.is_some(),
         };
         let terms = Terms {
             tests,
             limit,
             batch,
         };
-        let (notifier, invalidator) = (&mut self.notifier, &mut self.invalidator);
-        self.inner.apply_queues(notifier, bounds);
-        let ran = self.inner.make_passes(notifier, invalidator, clock, terms);
+        self.inner.apply_queues(&mut self.notifier, bounds);
+        let ran = self
+            .inner
+            .make_passes(&mut self.notifier, &mut self.invalidator, clock, terms);
         self.entry_count = self.inner.member_count() as u64;
         self.weighted_size = saturated(self.inner.total_weight());
         self.passes = ran.passes;

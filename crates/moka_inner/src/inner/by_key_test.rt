@@ -64,14 +64,15 @@ impl<K: Eq + Hash, V, S: BuildHasher> Inner<K, V, S> {
         } }
     {
         let (test, own) = sought;
+        let place = match self.store.find_by(test, own) {
+            Some((handle, _)) => handle.place,
+            None => 0,
+        };
         let read = ReadOperation::Hit {
             number,
             hash,
             renewed,
         };
-        match self.store.find_by(test, own) {
-            Some((Handle { place, .. }, _)) => self.queue_read(place, read),
-            None => self.queue_read(0, read),
-        }
+        self.queue_read(place, read);
     }
 }

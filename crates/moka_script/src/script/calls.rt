@@ -1,10 +1,10 @@
 //! The calls of a script.
 ghost use Rattle.std.specs.Prelude.{◌≡◌, option_map};
 ghost use Rattle.moka_script.specs.Lex.{texts};
-ghost use Rattle.moka_script.specs.Calls.{call_of, call_text, other_call_of, key_and_moment, insert_of, send_of, get_of, peek_of, scan_of, contains_of, key_of, remove_of, invall_of, invif_of, run_of, resize_of, due_of};
+ghost use Rattle.moka_script.specs.Calls.{call_of, call_text, other_call_of, key_and_moment, insert_of, send_of, get_of, peek_of, scan_of, contains_of, key_of, remove_at, remove_of, invall_of, invif_of, run_at, run_of, resize_of, due_of};
 
 use crate::key_range::KeyRange;
-use crate::lex::{alone, lone_number, number, number_or_none, small_number};
+use crate::lex::{alone, key_at, lone_number, number, number_or_none, small_number};
 use crate::word::Word;
 use moka_parts::calls::{Call, Reply, Ticket};
 use moka_parts::policy::Instant;
@@ -68,8 +68,7 @@ fn insert<'a>(arguments: &[&'a str]) -> Option<LineCall<'a>>
     let [key, value, now] = arguments else {
         return None;
     };
-    let key = small_number(key)?;
-    let now = Instant(number(now)?);
+    let (key, now) = key_at(key, now)?;
     Some(LineCall::Insert { key, value, now })
 }
 
@@ -77,12 +76,10 @@ fn insert<'a>(arguments: &[&'a str]) -> Option<LineCall<'a>>
 fn key_and_moment(arguments: &[&str]) -> Option<(u32, Instant)>
     ensures { result ≡ key_and_moment (texts arguments.now) }
 {
-    let [key, now] = arguments else {
-        return None;
-    };
-    let key = small_number(key)?;
-    let now = Instant(number(now)?);
-    Some((key, now))
+    match arguments {
+        [key, now] => key_at(key, now),
+        _ => None,
+    }
 }
 
 /// `send TICKET`
@@ -156,11 +153,17 @@ fn key(arguments: &[&str]) -> Option<ScriptCall>
 fn remove(arguments: &[&str]) -> Option<ScriptCall>
     ensures { result ≡ remove_of (texts arguments.now) }
 {
-    let (key, now) = match arguments {
-        [key] => (key, None),
-        [key, now] => (key, Some(Instant(number(now)?))),
-        _ => return None,
-    };
+    match arguments {
+        [key] => remove_at(key, None),
+        [key, now] => remove_at(key, Some(Instant(number(now)?))),
+        _ => None,
+    }
+}
+
+/// A removal of the key that a word says, at a moment if the listener is told.
+fn remove_at(key: &str, now: Option<Instant>) -> Option<ScriptCall>
+    ensures { result ≡ remove_at key.now now }
+{
     let key = small_number(key)?;
     Some(Call::Remove {
         key,
@@ -185,8 +188,7 @@ fn invif(arguments: &[&str]) -> Option<ScriptCall>
         return None;
     };
     let low = small_number(low)?;
-    let high = small_number(high)?;
-    let now = Instant(number(now)?);
+    let (high, now) = key_at(high, now)?;
     let predicate = KeyRange { low, high };
     Some(Call::InvalidateIf { predicate, now })
 }
@@ -195,11 +197,17 @@ fn invif(arguments: &[&str]) -> Option<ScriptCall>
 fn run<'a>(arguments: &[&'a str]) -> Option<LineCall<'a>>
     ensures { option_map call_text result ≡ run_of (texts arguments.now) }
 {
-    let (now, batch, limit) = match arguments {
-        [now, batch] => (now, batch, None),
-        [now, batch, limit] => (now, batch, Some(number(limit)?)),
-        _ => return None,
-    };
+    match arguments {
+        [now, batch] => run_at(now, batch, None),
+        [now, batch, limit] => run_at(now, batch, Some(number(limit)?)),
+        _ => None,
+    }
+}
+
+/// A run of the moment and the batch that two words say, with that limit.
+fn run_at<'a>(now: &str, batch: &str, limit: Option<u64>) -> Option<LineCall<'a>>
+    ensures { option_map call_text result ≡ run_at now.now batch.now limit }
+{
     let now = Instant(number(now)?);
     let batch = small_number(batch)?;
     Some(LineCall::Run { now, limit, batch })

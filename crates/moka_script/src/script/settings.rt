@@ -1,10 +1,10 @@
 //! The settings of a script.
 ghost use Rattle.std.specs.Prelude.{◌≡◌};
 ghost use Rattle.moka_script.specs.Lex.{texts};
-ghost use Rattle.moka_script.specs.Settings.{filled, raised, ids_given, ids_of, keeper_of, policy_of, policy_named, question_named, rule_line, rule_of, setting_of};
+ghost use Rattle.moka_script.specs.Settings.{filled, raised, ids_given, ids_of, keeper_of, numbered_setting, policy_of, policy_named, question_named, rule_line, rule_of, setting_of};
 
 use crate::first_ticket::FirstTicket;
-use crate::lex::{alone, lone_number, number, number_or_none, small_number};
+use crate::lex::{alone, key_at, lone_number, number, number_or_none, small_number};
 use crate::rules::{Question, Rule};
 use crate::weigher::NumberWeigher;
 use moka_parts::policy::EvictionPolicy;
@@ -189,18 +189,27 @@ pub fn parse_setting(name: &str, arguments: &[&str]) -> Option<Setting>
     ensures { result ≡ setting_of name.now (texts arguments.now) }
 {
     match name {
-        "first" => Some(Setting::First(FirstTicket::new(lone_number(arguments)?)?)),
-        "capacity" => Some(Setting::Capacity(lone_number(arguments)?)),
         "policy" => policy(arguments),
-        "ttl" => Some(Setting::TimeToLive(lone_number(arguments)?)),
-        "tti" => Some(Setting::TimeToIdle(lone_number(arguments)?)),
         "weigh" => alone(Setting::Weigh(NumberWeigher), arguments),
         "listener" => alone(Setting::Listener, arguments),
         "invalidator" => alone(Setting::Invalidator, arguments),
         "ids" => ids(arguments),
-        "start" => Some(Setting::Start(lone_number(arguments)?)),
         "keeper" => keeper(arguments),
         "auto" => alone(Setting::Auto, arguments),
+        _ => numbered_setting(name, lone_number(arguments)?),
+    }
+}
+
+/// The setting of that name to a number alone, if there is one.
+fn numbered_setting(name: &str, number: u64) -> Option<Setting>
+    ensures { result ≡ numbered_setting name.now number }
+{
+    match name {
+        "first" => Some(Setting::First(FirstTicket::new(number)?)),
+        "capacity" => Some(Setting::Capacity(number)),
+        "ttl" => Some(Setting::TimeToLive(number)),
+        "tti" => Some(Setting::TimeToIdle(number)),
+        "start" => Some(Setting::Start(number)),
         _ => None,
     }
 }
@@ -213,13 +222,12 @@ fn rule(arguments: &[&str]) -> Option<Rule>
         return None;
     };
     let question = question_named(question)?;
-    let key = small_number(key)?;
-    let moment = number(moment)?;
+    let (key, moment) = key_at(key, moment)?;
     let answer = number_or_none(answer)?;
     Some(Rule {
         question,
         key,
-        moment,
+        moment: moment.0,
         answer,
     })
 }

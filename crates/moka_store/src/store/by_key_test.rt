@@ -4,7 +4,7 @@ ghost use Rattle.std.specs.FinMap as finite;
 ghost use Rattle.moka_parts.specs.Hashing.{key_hash};
 ghost use Rattle.moka_parts.specs.KeyTests.{record_by};
 ghost use Rattle.moka_store.specs.Hashing.{IsIndexHash};
-ghost use Rattle.moka_store.specs.Store.{IsHandle};
+ghost use Rattle.moka_store.specs.Store.{IsHandle, IsOneEach};
 ghost use Rattle.moka_store.specs.StoreRows.{passes_at};
 
 use super::{Handle, IndexHash, Store, changes};
@@ -22,7 +22,7 @@ fn is_key_at<K: Eq + Hash, V, T: KeyTest<K>>(
 ) -> bool
     ensures { result ≡ passes_at (T.passes test.now) table.now.rows place }
 {
-    table.key(place).is_some_and(|own| test.is_key(own))
+    matches!(table.key(place), Some(own) if test.is_key(own))
 }
 
 impl<K: Eq + Hash, V, S: BuildHasher> Store<K, V, S> {
@@ -47,6 +47,7 @@ impl<K: Eq + Hash, V, S: BuildHasher> Store<K, V, S> {
         ensures found { IfSome result (λ f. finite.get self.now.records f.0.number ≡ Some f.1) }
         ensures passes { IfSome result (λ f. T.passes test.now f.1.key ≡ true) }
         ensures value { option_map (λ f. f.1) result ≡ record_by (T.passes test.now) self.now.records }
+        ensures one_each { IsOneEach K.eq self.now.records }
     {
         let table = &self.table;
         let is_match = |place| is_key_at(table, place, test);

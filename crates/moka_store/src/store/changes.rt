@@ -1,6 +1,6 @@
 //! Changes and reads at one place of the table.
 ghost use Rattle.std.specs.Prelude.{◌≡◌, ◌^◌, ◌<◌, ◌≤◌, IsOk, IsSome, OnOk, Some, option_map};
-ghost use Rattle.moka_store.specs.StoreRows.{has_key_at, member_in, row_room, timer_at, written_at};
+ghost use Rattle.moka_store.specs.StoreRows.{member_in, row_room, timer_at, written_at};
 ghost use Rattle.moka_parts.specs.declared.records.Record.{Record};
 ghost use Rattle.moka_parts.specs.Records.{member};
 ghost use Rattle.moka_store.specs.RecordTable.{Row, number_at, row_at, stored_at};
@@ -47,14 +47,6 @@ pub(crate) fn reserve_rows<K, V>(
         return Err(AllocError);
     }
     Ok(())
-}
-
-// Whether the record at this place has an equal key.
-#[inline(always)]
-pub(crate) fn has_key<K: Eq, V>(table: &RecordTable<K, V>, place: usize, key: &K) -> bool
-    ensures { result ≡ has_key_at K.eq table.now.rows key.now place }
-{
-    table.key(place).is_some_and(|own| *key == *own)
 }
 
 // The handle of the record at this place, and that record.

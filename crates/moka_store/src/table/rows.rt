@@ -5,10 +5,10 @@ ghost use Rattle.slab.specs.Entry.{value_of};
 ghost use Rattle.moka_parts.specs.declared.record_ref.Front.{Front};
 ghost use Rattle.moka_store.specs.RecordTable.{row_at, number_at, stored_at, membership_at, ChangesAt, ChangesRow, with_stored};
 ghost use Rattle.moka_store.specs.Slots.{counted_as, IsSlot, HasSlots};
-ghost use Rattle.moka_store.specs.States.{front_of, touched, rewritten};
+ghost use Rattle.moka_store.specs.States.{touched, rewritten};
 
 use super::membership::Membership;
-use super::slot::{FrontRef, Slot};
+use super::slot::Slot;
 use crate::store::Update;
 use moka_parts::policy::Instant;
 use moka_parts::record_ref::Front;
@@ -113,55 +113,12 @@ impl<K, V> Rows<K, V> {
         place
     }
 
-    // What stands at this place, if it is one.
+    /// What stands at this place, if it is one.
     #[inline(always)]
-    fn slot(&self, place: usize) -> Option<&Slot<K, V>>
+    pub(crate) fn at(&self, place: usize) -> Option<&Slot<K, V>>
         ensures { option_and_then value_of (option_copied result) ≡ row_at self.now.rows place }
     {
         self.slots.get(place)
-    }
-
-    /// The number of the row at this place.
-    #[inline(always)]
-    pub(crate) fn number(&self, place: usize) -> Option<u64>
-        ensures { result ≡ option_map (λ row. row.number) (row_at self.now.rows place) }
-    {
-        self.slot(place)?.number()
-    }
-
-    /// The number and the record at this place, if the record is in the map.
-    #[inline(always)]
-    pub(crate) fn live(&self, place: usize) -> Option<(u64, FrontRef<'_, K, V>)>
-        ensures number { IfSome result (λ f. f.0 ≡ number_at self.now.rows place) }
-        ensures stored { option_map (λ f. front_of f.1) result ≡ stored_at self.now.rows place }
-    {
-        self.slot(place)?.live()
-    }
-
-    /// The key of the record at this place, if the record is in the map.
-    #[inline(always)]
-    pub(crate) fn key(&self, place: usize) -> Option<&K>
-        ensures { option_copied result ≡ option_map (λ f. f.hot.key) (stored_at self.now.rows place) }
-    {
-        self.slot(place)?.key()
-    }
-
-    /// The membership of the row at this place, with no weight.
-    #[inline(always)]
-    pub(crate) fn membership(&self, place: usize) -> Option<Membership>
-        ensures membership { result ≡ membership_at self.now.rows place }
-        ensures slots { IfSome result HasSlots }
-    {
-        self.slot(place)?.membership()
-    }
-
-    /// The slot among the timers of the row at this place.
-    #[inline(always)]
-    pub(crate) fn timer(&self, place: usize) -> Option<u32>
-        ensures timer { result ≡ option_and_then (λ row. row.timer) (row_at self.now.rows place) }
-        ensures slot { IsSlot result }
-    {
-        self.slot(place)?.timer()
     }
 
     /// The record at this place was read at this moment, and now expires by itself or does not: as before, unless that

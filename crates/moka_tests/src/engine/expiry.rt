@@ -45,14 +45,27 @@ struct Recorder {
 }
 
 impl Recorder {
-    fn note(&self, asked: Asked) {
-        let times = self.asked.get().times.wrapping_add(1);
-        self.asked.set(Asked { times, ..asked });
+    fn note(
+        &self,
+        key: u32,
+        value: &Word,
+        now: Instant,
+        left: Option<Duration>,
+        modified: Option<Instant>,
+    ) {
+        self.asked.set(Asked {
+            times: self.asked.get().times.wrapping_add(1),
+            key,
+            value: first_byte(value.as_str()),
+            now,
+            left,
+            modified,
+        });
     }
 }
 
-fn first_byte(value: &Word) -> Option<u8> {
-    value.as_str().as_bytes().first().copied()
+fn first_byte(text: &str) -> Option<u8> {
+    text.as_bytes().first().copied()
 }
 
 impl Expiry<u32, Word> for Recorder {
@@ -65,12 +78,7 @@ impl Expiry<u32, Word> for Recorder {
     ghost updated = { λ x. updated_by x.rules };
 
     fn expire_after_create(&self, key: &u32, value: &Word, now: Instant) -> Option<Duration> {
-        self.note(Asked {
-            key: *key,
-            value: first_byte(value),
-            now,
-            ..NOTHING
-        });
+        self.note(*key, value, now, None, None);
         self.rules.expire_after_create(key, value, now)
     }
 
@@ -82,14 +90,7 @@ impl Expiry<u32, Word> for Recorder {
         left: Option<Duration>,
         modified: Instant,
     ) -> Option<Duration> {
-        self.note(Asked {
-            key: *key,
-            value: first_byte(value),
-            now,
-            left,
-            modified: Some(modified),
-            ..NOTHING
-        });
+        self.note(*key, value, now, left, Some(modified));
         self.rules
             .expire_after_read(key, value, now, left, modified)
     }
@@ -101,13 +102,7 @@ impl Expiry<u32, Word> for Recorder {
         now: Instant,
         left: Option<Duration>,
     ) -> Option<Duration> {
-        self.note(Asked {
-            key: *key,
-            value: first_byte(value),
-            now,
-            left,
-            ..NOTHING
-        });
+        self.note(*key, value, now, left, None);
         self.rules.expire_after_update(key, value, now, left)
     }
 }
@@ -280,7 +275,7 @@ fn wanted(key: u32, step: &Step, modified: Instant) -> Asked {
     Asked {
         times: 1,
         key,
-        value: letter_of(key).and_then(|letter| letter.as_bytes().first().copied()),
+        value: first_byte(letter_of(key).unwrap_or("")),
         now: moment(key, at),
         left: left.map(Duration::from_secs),
         modified,

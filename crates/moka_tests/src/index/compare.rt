@@ -2,9 +2,11 @@
 ghost use Rattle.std.specs.Prelude.{◌≡◌, ◌≢◌, ◌^◌, ◌<◌, ℕ, IfSome, None, Some};
 ghost use Rattle.std.specs.FinMap as finite;
 
+use crate::equal::assert_equal;
 use moka_index::PlaceIndex;
 use std::alloc::AllocError;
 use std::collections::HashMap;
+use std::process::Abort;
 use std::test::Fail;
 
 const STEPS: usize = 10_000;
@@ -49,11 +51,15 @@ fn toggle(
     Ok(())
 }
 
-#[test]
-fn ten_thousand_steps_agree_with_a_map(rt: HostRuntime) -> Result<(), Fail> {
-    let mut index = PlaceIndex::new(rt.alloc());
-    let mut places: HashMap<u32, usize> = HashMap::new(rt.alloc());
-    let mut keys = Vec::new(rt.alloc());
+// Toggles keys in both, which agree on each.
+fn check_steps(
+    rt: &impl Abort,
+    index: &mut PlaceIndex,
+    places: &mut HashMap<u32, usize>,
+    keys: &mut Vec<u32>,
+) -> Result<(), Fail>
+    requires { (p : ℕ) → finite.get index.old.entries p ≡ None }
+{
     let mut random: u64 = 1;
     for place in 0..STEPS {
         random = random
@@ -62,17 +68,31 @@ fn ten_thousand_steps_agree_with_a_map(rt: HostRuntime) -> Result<(), Fail> {
         let key = (random >> 33) as u32 % KEYS;
         keys.push(key)?;
         let hash = hash_of(key);
-        let found = find(&index, &keys, hash, key);
-        assert_eq!(rt; found, places.get(&key).copied());
-        toggle(&mut index, hash, found, place)?;
+        let found = find(index, keys.as_slice(), hash, key);
+        assert_equal(rt, found, places.get(&key).copied());
+        toggle(index, hash, found, place)?;
         if places.remove(&key).is_none() {
             places.insert(key, place)?;
         }
-        assert_eq!(rt; index.len(), places.len());
+        assert_equal(rt, index.len(), places.len());
     }
+    Ok(())
+}
+
+// Both agree on all keys.
+fn check_keys(rt: &impl Abort, index: &PlaceIndex, places: &HashMap<u32, usize>, keys: &[u32]) {
     for key in 0..KEYS {
-        let found = find(&index, &keys, hash_of(key), key);
-        assert_eq!(rt; found, places.get(&key).copied());
+        let found = find(index, keys, hash_of(key), key);
+        assert_equal(rt, found, places.get(&key).copied());
     }
+}
+
+#[test]
+fn ten_thousand_steps_agree_with_a_map(rt: HostRuntime) -> Result<(), Fail> {
+    let mut index = PlaceIndex::new(rt.alloc());
+    let mut places: HashMap<u32, usize> = HashMap::new(rt.alloc());
+    let mut keys = Vec::new(rt.alloc());
+    check_steps(&rt, &mut index, &mut places, &mut keys)?;
+    check_keys(&rt, &index, &places, keys.as_slice());
     Ok(())
 }

@@ -3,7 +3,7 @@ use crate::equal::assert_equal;
 use moka_parts::notification::{Listener, NoListener, RemovalCause, RemovalNotifier};
 
 /// Keeps the last value that it was told of, and counts.
-#[derive(Clone, Copy, Debug, PartialEq, Eq)]
+#[derive(Drop)]
 struct LastValue {
     heard: Option<(u8, u64, RemovalCause)>,
 }
@@ -24,8 +24,11 @@ fn tells_the_listener(rt: HostRuntime) {
     assert!(rt; notifier.is_enabled());
     notifier.notify(1, 10, RemovalCause::Size);
     notifier.notify(2, 20, RemovalCause::Expired);
-    let heard = Some((2, 20, RemovalCause::Expired));
-    assert_equal(&rt, notifier.listener().copied(), Some(LastValue { heard }));
+    let heard = match notifier.listener() {
+        Some(last) => last.heard,
+        None => None,
+    };
+    assert_equal(&rt, heard, Some((2, 20, RemovalCause::Expired)));
 }
 
 #[test]
@@ -47,6 +50,6 @@ fn knows_evictions(rt: HostRuntime) {
         (RemovalCause::Replaced, false),
         (RemovalCause::Size, true),
     ] {
-        assert_eq!(rt; cause.was_evicted(), was_evicted, "{cause:?}");
+        assert_equal(&rt, (cause, cause.was_evicted()), (cause, was_evicted));
     }
 }

@@ -1,6 +1,6 @@
 //! Policies, moments and expiries.
 use crate::equal::assert_equal;
-use crate::printed::check;
+use crate::printed::check_all;
 use moka_parts::policy::{
     EvictionPolicy, ExpirationPolicy, ExpireAfter, ExpireAfterCreate, Expiry, Instant, NoExpiry,
     Policy,
@@ -25,15 +25,14 @@ impl ExpireAfterCreate<u8, u64> for BySeconds {
 
 #[test]
 fn prints_eviction_policies(rt: HostRuntime) -> Result<(), Fail> {
-    let default = EvictionPolicy::default();
-    for (policy, text) in [
-        (EvictionPolicy::tiny_lfu(), "EvictionPolicy::TinyLfu"),
-        (EvictionPolicy::lru(), "EvictionPolicy::Lru"),
-        (default, "EvictionPolicy::TinyLfu"),
-    ] {
-        check(&rt, &format_args!("{policy:?}"), text)?;
-    }
-    Ok(())
+    check_all(
+        &rt,
+        &[
+            (EvictionPolicy::tiny_lfu(), "EvictionPolicy::TinyLfu"),
+            (EvictionPolicy::lru(), "EvictionPolicy::Lru"),
+            (EvictionPolicy::default(), "EvictionPolicy::TinyLfu"),
+        ],
+    )
 }
 
 /// A policy tells of these expirations and of what else it was made with.

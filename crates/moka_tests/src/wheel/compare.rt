@@ -1,9 +1,11 @@
 //! The wheel beside a plain table of its timers.
 ghost use Rattle.std.specs.Prelude.{◌<◌, ◌≤◌};
 
+use crate::equal::assert_equal;
 use moka_wheel::TimerWheel;
 use std::alloc::{AllocError, Global};
 use std::marker::Model;
+use std::process::Abort;
 use std::test::Fail;
 
 // Slots are less than this.
@@ -163,16 +165,20 @@ impl Both {
     }
 }
 
+fn check_steps(rt: &impl Abort, both: &mut Both, state: &mut u64) -> Result<(), AllocError> {
+    for number in 0..200 {
+        assert!(rt; both.step(state, number)?, "at step {number}");
+    }
+    assert!(rt; both.advance_to(u64::MAX));
+    assert_equal(rt, both.wheel.len(), 0);
+    Ok(())
+}
+
 #[test]
 fn both_hand_out_the_same_timers(rt: HostRuntime) -> Result<(), Fail> {
     let mut state = 1;
     for _ in 0..50 {
-        let mut both = Both::new(rt.alloc())?;
-        for number in 0..200 {
-            assert!(rt; both.step(&mut state, number)?, "at step {number}");
-        }
-        assert!(rt; both.advance_to(u64::MAX));
-        assert_eq!(rt; both.wheel.len(), 0);
+        check_steps(&rt, &mut Both::new(rt.alloc())?, &mut state)?;
     }
     Ok(())
 }

@@ -378,7 +378,7 @@ impl<
     // Counts a call of a maker.
     pub(crate) fn count_load(&mut self)
     {
-        self.stats.count_load();
+        self.stats.loads = self.stats.loads.saturating_add(1);
     }
 
     /// Registers a predicate at the moment `now`, as the engine's call of this name does: what it covers is hidden from

@@ -37,10 +37,4 @@ impl Stats {
             Err(_) => {}
         }
     }
-
-    /// Counts a call of a maker.
-    pub(crate) fn count_load(&mut self)
-    {
-        self.loads = self.loads.saturating_add(1);
-    }
 }

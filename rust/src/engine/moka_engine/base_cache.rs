@@ -2,7 +2,6 @@
 //! The cache. moka: `sync::base_cache`.
 use crate::support::prelude::*;
 
-use self::by_key_test::SameKey;
 use self::gets::Moments;
 use crate::engine::moka_inner::{Hashes, Inner, Layout};
 use crate::engine::moka_parts::calls::{Entry, KvEntry, Ticket};
@@ -10,7 +9,7 @@ use crate::engine::moka_parts::closures::{NoTest, PredicateFn, Weigher};
 use crate::engine::moka_parts::error::{CapacityError, InsertRefused, OutOfMemory, SendError};
 use crate::engine::moka_parts::housekeeper::{Clock, Housekeeper, HousekeeperConfig};
 use crate::engine::moka_parts::invalidator::Invalidator;
-use crate::engine::moka_parts::key_test::KeyTest;
+use crate::engine::moka_parts::key_test::{KeyTest, SameKey};
 use crate::engine::moka_parts::notification::{Listener, RemovalNotifier};
 use crate::engine::moka_parts::policy::{EvictionPolicy, ExpirationPolicy, Expiry, Instant, Policy};
 use crate::engine::moka_parts::records::Record;
@@ -36,23 +35,6 @@ pub use snapshot::{Snapshot, SnapshotEntry};
 
 // How many segments the map has.
 const SEGMENTS: usize = 1;
-
-// What a get looks up: what only its key passes, with the key's hashes, whether the record's own key is to be cloned, and
-// when.
-struct Look<'a, T> {
-    test: &'a T,
-    hashes: Hashes,
-    need_key: bool,
-    now: Instant,
-}
-
-// A hit that is to be queued: the record's number and first hash, and whether its expiry was renewed.
-#[derive(Clone, Copy)]
-struct ReadHit {
-    number: u64,
-    hash: u64,
-    renewed: bool,
-}
 
 /// A cache. moka: `sync::base_cache::BaseCache`.
 pub struct BaseCache<
@@ -138,15 +120,10 @@ impl<
         first_ticket: u64,
     ) -> Result<Self, OutOfMemory>
     {
-        let initial_capacity = initial_capacity.unwrap_or(0);
-        let ordered = needs_write_list(&expiration_policy, invalidator_enabled);
-        let timed = needs_timers(&expiration_policy);
-        let layout = Layout {
-            initial_capacity,
-            ordered,
-            timed,
+        let layout = layout_of(&expiration_policy, invalidator_enabled, initial_capacity);
+        let Ok(inner) = Inner::new(alloc, build_hasher, first_ticket, layout) else {
+            return Err(OutOfMemory);
         };
-        let inner = Inner::new(alloc, build_hasher, first_ticket, layout)?;
         let notifier = RemovalNotifier::new(eviction_listener);
         let housekeeper = Housekeeper::new(notifier.is_enabled(), housekeeper_config, now);
         Ok(BaseCache {
@@ -184,7 +161,8 @@ impl<
     pub fn policy(&self) -> Policy
     {
         let times = &self.expiration_policy;
-        let (live, idle) = (times.time_to_live(), times.time_to_idle());
+        let live = times.time_to_live();
+        let idle = times.time_to_idle();
         Policy::new(self.max_capacity, live, idle)
     }
 
@@ -309,8 +287,8 @@ impl<
             };
             return Ok((self.inner.insert(key, hashes, update), now));
         };
-        let (policy, valid_after) = (&self.expiration_policy, self.valid_after);
-        let cause = causes::cause_of_replacement(&found, policy, valid_after, now);
+        let policy = &self.expiration_policy;
+        let cause = causes::cause_of_replacement(&found, policy, self.valid_after, now);
         let expires = inserts::expires_at_update(&found, policy, &key, &value, now);
         if let Err(error) = self.inner.reserve_operation() {
             return Err(InsertRefused { error, key, value });
@@ -385,9 +363,14 @@ impl<
         if !self.is_removal_notifier_enabled() {
             return Ok(());
         }
-        let (key, value) = (entry.key.try_clone()?, entry.value.try_clone()?);
-        let (written, read) = (entry.last_modified, entry.last_accessed);
-        let cause = causes::cause_of_removal(&self.expiration_policy, written, read, now);
+        let Ok(key) = entry.key.try_clone() else {
+            return Err(OutOfMemory);
+        };
+        let Ok(value) = entry.value.try_clone() else {
+            return Err(OutOfMemory);
+        };
+        let policy = &self.expiration_policy;
+        let cause = causes::cause_of_removal(policy, entry.last_modified, entry.last_accessed, now);
         self.notifier.notify(key, value, cause);
         Ok(())
     }
@@ -455,7 +438,10 @@ impl<
         if segment >= SEGMENTS {
             return Ok(None);
         }
-        Ok(Some(self.inner.keys(self.alloc)?))
+        match self.inner.keys(self.alloc) {
+            Ok(keys) => Ok(Some(keys)),
+            Err(_) => Err(OutOfMemory),
+        }
     }
 
     /// Looks up a key at the moment `now`, and queues the read. The answer has a clone of the record's value, and one
@@ -479,13 +465,8 @@ impl<
         V: Clone,
     {
         let own = self.inner.index_hash(key);
-        let look = Look {
-            test: &SameKey(key),
-            hashes: Hashes { hash, own },
-            need_key,
-            now,
-        };
-        self.get_hashed(look, &mut NoTest, clock)
+        let sought = (&SameKey(key), Hashes { hash, own });
+        self.get_hashed(sought, need_key, now, &mut NoTest, clock)
     }
 
     /// As `get_with_hash`, given the key's hash by the cache's own hasher (`hash`), so the key is not hashed again.
@@ -521,14 +502,17 @@ fn entry_of_record<K, V>(taken: Record<K, V>) -> KvEntry<K, V>
     }
 }
 
-// Whether records are also kept in the order of their writing.
-fn needs_write_list<X>(policy: &ExpirationPolicy<X>, invalidator_enabled: bool) -> bool
+// Records are also kept in the order of their writing where they have a time to live or predicates may cover them, and
+// timers are kept where an expiry is set.
+fn layout_of<X>(
+    policy: &ExpirationPolicy<X>,
+    invalidator_enabled: bool,
+    initial_capacity: Option<usize>,
+) -> Layout
 {
-    policy.time_to_live().is_some() || invalidator_enabled
-}
-
-// Whether timers are kept: an expiry is set.
-fn needs_timers<X>(policy: &ExpirationPolicy<X>) -> bool
-{
-    policy.expiry().is_some()
+    Layout {
+        initial_capacity: initial_capacity.unwrap_or(0),
+        ordered: policy.time_to_live().is_some() | invalidator_enabled,
+        timed: policy.expiry().is_some(),
+    }
 }

@@ -236,7 +236,6 @@ impl<X, L, P, W> CacheConfig<X, L, P, W> {
         W: Weigher<K, V>,
     {
         let choices = self.choices;
-        let (live, idle) = (choices.time_to_live, choices.time_to_idle);
         BaseCache::new(
             alloc,
             choices.name,
@@ -246,7 +245,7 @@ impl<X, L, P, W> CacheConfig<X, L, P, W> {
             self.weigher,
             choices.eviction_policy,
             self.listener,
-            expirations(live, idle, self.expiry),
+            expirations(choices.time_to_live, choices.time_to_idle, self.expiry),
             choices.housekeeper,
             choices.invalidator_enabled,
             now,

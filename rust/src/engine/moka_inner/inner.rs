@@ -305,7 +305,8 @@ impl<K: Eq + Hash, V, S: BuildHasher> Inner<K, V, S> {
     /// The least ticket of these.
     pub fn oldest_outstanding(&self) -> Option<Ticket>
     {
-        self.outstanding.oldest().map(Ticket)
+        let ticket = self.outstanding.oldest()?;
+        Some(Ticket(ticket))
     }
 
     /// How many operations are queued.

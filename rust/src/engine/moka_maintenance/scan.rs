@@ -54,7 +54,7 @@ where
     if round.is_end {
         drop_idle(store, invalidator);
     }
-    round.looked > 0 && !invalidator.is_empty()
+    (round.looked > 0) & !invalidator.is_empty()
 }
 
 // Walks from the cursor to the end, and then from the front on, past no more members than there are.

@@ -30,34 +30,31 @@ impl Tests {
     fn cause_of<K, V>(self, sweep: Sweep, found: &RecordRef<'_, K, V>) -> Option<RemovalCause>
     {
         match sweep {
-            Sweep::Written => self.cause_by_write(found),
-            Sweep::Read => self.cause_by_read(found),
+            Sweep::Written => {
+                let written = found.written();
+                self.cause_at(
+                    is_expired_by_ttl(self.time_to_live, written, self.now),
+                    written,
+                )
+            }
+            Sweep::Read => {
+                let read = found.read();
+                self.cause_at(is_expired_by_tti(self.time_to_idle, read, self.now), read)
+            }
             Sweep::Surplus => Some(RemovalCause::Size),
         }
     }
 
-    // Why a record leaves by the moment of its last write, if it does.
-    fn cause_by_write<K, V>(self, found: &RecordRef<'_, K, V>) -> Option<RemovalCause>
+    // Why a record leaves by the moment of its last write or read, if it does.
+    fn cause_at(self, is_past: bool, moment: Instant) -> Option<RemovalCause>
     {
-        if is_expired_by_ttl(self.time_to_live, found.written(), self.now) {
-            return Some(RemovalCause::Expired);
+        if is_past {
+            Some(RemovalCause::Expired)
+        } else if is_invalid_entry(self.valid_after, moment) {
+            Some(RemovalCause::Explicit)
+        } else {
+            None
         }
-        if is_invalid_entry(self.valid_after, found.written()) {
-            return Some(RemovalCause::Explicit);
-        }
-        None
-    }
-
-    // Why a record leaves by the moment of its last read, if it does.
-    fn cause_by_read<K, V>(self, found: &RecordRef<'_, K, V>) -> Option<RemovalCause>
-    {
-        if is_expired_by_tti(self.time_to_idle, found.read(), self.now) {
-            return Some(RemovalCause::Expired);
-        }
-        if is_invalid_entry(self.valid_after, found.read()) {
-            return Some(RemovalCause::Explicit);
-        }
-        None
     }
 }
 
@@ -167,7 +164,13 @@ fn next_of<K: Eq + Hash, V, S: BuildHasher>(
     match sweep {
         Sweep::Written => store.front_written(),
         Sweep::Read => first_of(store),
-        Sweep::Surplus => first_over(store, tests.capacity),
+        Sweep::Surplus => {
+            if is_over(tests.capacity, store.total_weight()) {
+                first_of(store)
+            } else {
+                None
+            }
+        }
     }
 }
 
@@ -178,20 +181,11 @@ fn first_of<K: Eq + Hash, V, S: BuildHasher>(store: &Store<K, V, S>) -> Option<H
     Some(handle)
 }
 
-// The front of the access list, while the capacity is exceeded.
-fn first_over<K: Eq + Hash, V, S: BuildHasher>(
-    store: &Store<K, V, S>,
-    capacity: Option<u64>,
-) -> Option<Handle>
-{
-    if !is_over(capacity, store.total_weight()) {
-        return None;
-    }
-    first_of(store)
-}
-
 /// Whether the capacity, if there is one, is exceeded by so much weight.
 pub(crate) fn is_over(capacity: Option<u64>, weight: u128) -> bool
 {
-    capacity.is_some_and(|capacity| weight > u128::from(capacity))
+    match capacity {
+        Some(capacity) => weight > u128::from(capacity),
+        None => false,
+    }
 }

@@ -16,6 +16,19 @@ pub trait KeyTest<K: Eq + Hash> {
 
 }
 
+/// A key, as the test that it and what is equal to it pass.
+#[derive(Clone, Copy)]
+pub struct SameKey<'a, K>(pub &'a K);
+
+impl<'a, K: Eq + Hash> KeyTest<K> for SameKey<'a, K> {
+
+    #[inline(always)]
+    fn is_key(&self, key: &K) -> bool {
+        *self.0 == *key
+    }
+
+}
+
 /// A text finds the string that has it.
 impl<'a> KeyTest<String> for &'a str {
 

@@ -10,6 +10,7 @@ use crate::engine::moka_store::write_list::WriteList;
 pub use changes::MOST_PLACES;
 pub use hashing::IndexHash;
 use crate::engine::moka_index::PlaceIndex;
+use crate::engine::moka_parts::key_test::SameKey;
 use crate::engine::moka_parts::policy::Instant;
 use crate::engine::moka_parts::record_ref::RecordRef;
 use crate::engine::moka_parts::records::Record;
@@ -103,10 +104,7 @@ impl<K: Eq + Hash, V, S: BuildHasher> Store<K, V, S> {
     #[inline(always)]
     pub fn find_by_key(&self, key: &K, hash: IndexHash) -> Option<(Handle, RecordRef<'_, K, V>)>
     {
-        let table = &self.table;
-        let is_match = |place| changes::has_key(table, place, key);
-        let place = self.index.find(hash.0, is_match)?;
-        Some(changes::live_at(table, place))
+        self.find_by(&SameKey(key), hash)
     }
 
     /// The record at this handle, if it is still there.
@@ -200,7 +198,7 @@ impl<K: Eq + Hash, V, S: BuildHasher> Store<K, V, S> {
     #[inline(always)]
     pub fn is_settled(&self, handle: Handle) -> bool
     {
-        self.find(handle).is_some_and(|found| found.is_settled())
+        matches!(self.find(handle), Some(found) if found.is_settled())
     }
 
     /// The number at this handle comes to the back of both orders, with this weight. It takes no memory.

@@ -85,14 +85,14 @@ impl<K, V> RecordTable<K, V> {
     #[inline(always)]
     pub fn number(&self, place: usize) -> Option<u64>
     {
-        self.rows.number(place)
+        self.rows.at(place)?.number()
     }
 
     /// The number and the record at this place, if the record is in the map.
     #[inline(always)]
     pub fn live(&self, place: usize) -> Option<(u64, RecordRef<'_, K, V>)>
     {
-        let (number, front) = self.rows.live(place)?;
+        let (number, front) = self.rows.at(place)?.live()?;
         let (hot, cold) = (front.hot, &self.cold[place]);
         let found = RecordRef::new(number, hot, front.expiring, cold);
         Some((number, found))
@@ -102,7 +102,7 @@ impl<K, V> RecordTable<K, V> {
     #[inline(always)]
     pub fn key(&self, place: usize) -> Option<&K>
     {
-        self.rows.key(place)
+        self.rows.at(place)?.key()
     }
 
     /// The record at this place.
@@ -160,7 +160,7 @@ impl<K, V> RecordTable<K, V> {
     #[inline(always)]
     pub fn membership(&self, place: usize) -> Option<Membership>
     {
-        let found = self.rows.membership(place)?;
+        let found = self.rows.at(place)?.membership()?;
         membership::counted_as(self.cold[place].counted, Some(found))
     }
 
@@ -168,14 +168,14 @@ impl<K, V> RecordTable<K, V> {
     #[inline(always)]
     pub fn timer(&self, place: usize) -> Option<u32>
     {
-        self.rows.timer(place)
+        self.rows.at(place)?.timer()
     }
 
     /// The weight that is counted for the member at this place.
     #[inline(always)]
     pub fn counted(&self, place: usize) -> Option<u32>
     {
-        self.membership(place).map(|m| m.counted)
+        Some(self.membership(place)?.counted)
     }
 
     /// Another weight for the member at this place.

@@ -4,7 +4,7 @@ use crate::support::prelude::*;
 #[cfg(test)]
 use crate::support::test::prelude::*;
 use crate::proved_tests::moka_tests::equal::assert_equal;
-use std::fmt::Display;
+use std::fmt::{Debug, Display};
 use crate::support::test::process::Abort;
 use crate::support::test::test::Fail;
 
@@ -16,5 +16,17 @@ pub(crate) fn check<R: Abort + AllocGlobal, D: Display>(
 ) -> Result<(), Fail> {
     let printed = crate::support::test::text!("{value}")?;
     assert_equal(rt, printed.as_str(), text);
+    Ok(())
+}
+
+/// Prints each value as `Debug` does, which gives the text beside it.
+pub(crate) fn check_all<R: Abort + AllocGlobal, D: Debug>(
+    rt: &R,
+    cases: &[(D, &str)],
+) -> Result<(), Fail> {
+    for (value, text) in cases {
+        let printed = crate::support::test::text!("{value:?}")?;
+        assert_equal(rt, printed.as_str(), *text);
+    }
     Ok(())
 }

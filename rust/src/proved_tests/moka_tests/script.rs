@@ -3,6 +3,7 @@
 use crate::support::prelude::*;
 #[cfg(test)]
 use crate::support::test::prelude::*;
+use crate::proved_tests::moka_tests::equal::assert_equal;
 use crate::proved_tests::moka_tests::printed::check;
 use crate::engine::moka_parts::calls::{DriveRefused, KvEntry, Reply, Ticket};
 use crate::engine::moka_parts::error::{CapacityError, InsertError, OutOfMemory, SendError};
@@ -16,15 +17,15 @@ use crate::support::test::process::Abort;
 use crate::support::test::test::Fail;
 use crate::support::uuid::Uuid;
 
-/// Prints a reply, and tells whether it is refused for memory.
-fn check_reply<R: Abort + AllocGlobal>(
+/// Prints each reply, which gives the text beside it, and tells whether it is refused for memory.
+fn check_replies<R: Abort + AllocGlobal>(
     rt: &R,
-    reply: ScriptReply,
-    text: &str,
-    is_refused: bool,
+    cases: &[(ScriptReply, &str, bool)],
 ) -> Result<(), Fail> {
-    check(rt, &ReplyText(&reply), text)?;
-    assert_eq!( is_refused_memory(&reply), is_refused, "at {text}");
+    for (reply, text, is_refused) in cases {
+        check(rt, &ReplyText(reply), text)?;
+        assert_equal(rt, (*text, is_refused_memory(reply)), (*text, *is_refused));
+    }
     Ok(())
 }
 
@@ -42,26 +43,30 @@ fn prints_replies() -> Result<(), Fail> {
         removed: Some((entry, Ticket(2))),
         told: Some(Err(OutOfMemory)),
     };
-    check_reply(&rt, removed, "removed a ticket 2\nrefused memory", true)?;
-    check_reply(&rt, Reply::GetUnrecorded(Ok(None)), "none", false)?;
-    check_reply(&rt, Reply::Scan(Err(OutOfMemory)), "refused memory", true)?;
     let registered = Reply::InvalidateIf(Ok(Uuid::from_u128(10)));
-    check_reply(
-        &rt,
-        registered,
-        "predicate 00000000-0000-0000-0000-00000000000a",
-        false,
-    )?;
-    check_reply(&rt, Reply::InvalidateAll, "ok", false)?;
     let pending = Reply::Pending {
         handed: 4,
         oldest: Some(Ticket(1)),
         writes: 0,
         reads: 0,
     };
-    check_reply(&rt, pending, "handed 4 oldest 1 writes 0 reads 0", false)?;
     let refused = Reply::SetCapacity(Err(CapacityError::ZeroCapacity));
-    check_reply(&rt, refused, "refused zero", false)
+    check_replies(
+        &rt,
+        &[
+            (removed, "removed a ticket 2\nrefused memory", true),
+            (Reply::GetUnrecorded(Ok(None)), "none", false),
+            (Reply::Scan(Err(OutOfMemory)), "refused memory", true),
+            (
+                registered,
+                "predicate 00000000-0000-0000-0000-00000000000a",
+                false,
+            ),
+            (Reply::InvalidateAll, "ok", false),
+            (pending, "handed 4 oldest 1 writes 0 reads 0", false),
+            (refused, "refused zero", false),
+        ],
+    )
 }
 
 /// A listener with room for two notices keeps the first two, and they are printed behind the replies.

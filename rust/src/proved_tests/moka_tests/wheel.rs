@@ -4,6 +4,7 @@ use crate::support::prelude::*;
 #[cfg(test)]
 use crate::support::test::prelude::*;
 
+use crate::proved_tests::moka_tests::equal::assert_equal;
 use crate::engine::moka_wheel::TimerWheel;
 use crate::support::test::process::Abort;
 use crate::support::test::test::Fail;
@@ -20,7 +21,7 @@ fn next_due(wheel: &mut TimerWheel, now: u64) -> Option<u64>
 fn check_due(rt: &impl Abort, wheel: &mut TimerWheel, cases: &[(u64, Option<u64>)])
 {
     for &(now, number) in cases {
-        assert_eq!( next_due(wheel, now), number, "at {now}");
+        assert_equal(rt, (now, next_due(wheel, now)), (now, number));
     }
 }
 

@@ -12,9 +12,9 @@ use crate::support::test::test::Fail;
 
 const NOW: Instant = Instant(0);
 
-/// What is found of keys 1 to 4.
+/// What is found of the keys 3, 4, 1 and 2, in this order.
 fn found(alloc: Global, cache: &mut Cache<u64, u64>) -> Result<Vec<Option<u64>>, Fail> {
-    match ask(alloc, cache, &[1, 2, 3, 4], NOW, &mut FixedClock(NOW)) {
+    match ask(alloc, cache, &[3, 4, 1, 2], NOW, &mut FixedClock(NOW)) {
         Ok(found) => Ok(found),
         Err(_) => Err("memory".into()),
     }
@@ -25,10 +25,10 @@ fn check(rt: &impl Abort, alloc: Global, cache: &mut Cache<u64, u64>) -> Result<
     let rows = crate::support::vec::Vec::from_array(alloc, [(1, 10), (2, 20), (3, 30)])?;
     assert!( load(cache, rows, NOW, clock).is_ok());
     let all = found(alloc, cache)?;
-    assert!( matches!(all.as_slice(), [Some(10), Some(20), Some(30), None]));
+    assert!( matches!(all.as_slice(), [Some(30), None, Some(10), Some(20)]));
     assert!( drop_all(cache, &[1, 2], NOW, clock).is_ok());
     let left = found(alloc, cache)?;
-    assert!( matches!(left.as_slice(), [None, None, Some(30), None]));
+    assert!( matches!(left.as_slice(), [Some(30), None, None, None]));
     Ok(())
 }
 

@@ -2,6 +2,8 @@
 //! The words and the numbers of a line.
 use crate::support::prelude::*;
 
+use crate::engine::moka_parts::policy::Instant;
+
 /// A number has at most twenty digits.
 const MOST_DIGITS: usize = 20;
 
@@ -53,6 +55,14 @@ pub fn number_or_none(word: &str) -> Option<Option<u64>>
         "none" => Some(None),
         _ => Some(Some(number(word)?)),
     }
+}
+
+/// The key and the moment that two words say.
+pub fn key_at(key: &str, now: &str) -> Option<(u32, Instant)>
+{
+    let key = small_number(key)?;
+    let now = Instant(number(now)?);
+    Some((key, now))
 }
 
 /// Tells whether something stands between two spaces.

@@ -1,39 +1,29 @@
-use Rattle.std.proofs.Common.{arith, refl, sym, ap, ◌∙◌, true≢false}
-use Rattle.std.specs.FinMap as finite
+use Rattle.std.proofs.Common.{arith, refl, sym, ap, ◌∙◌}
 use Rattle.moka_parts.specs.Records.{number_to_back}
 use Rattle.moka_store.specs.Store.{Kept}
 use Rattle.moka_maintenance.specs.Steps.{contents_with}
 use Rattle.moka_maintenance.proofs.Fates.{applied-absent, applied-overtaken, applied-counted, applies-upsert, entered-recounted}
 use Rattle.moka_maintenance.proofs.Upkeep.{upkeep-none, entered-upkeep}
-use Rattle.moka_maintenance.proofs.Placed.{no_row}
+use Rattle.moka_maintenance.proofs.Placed.{not_found}
 use Rattle.moka_maintenance.proofs.admission.apply_upsert.Goals as goal
-
-pub returns-then-not-has_row : goal.returns-then-not-has_row
-returns-then-not-has_row g c =
-    let n = c.args.upsert.handle.number in
-    let k = c.args.store.now in
-    let none = no_row k.places n c.args.upsert.handle.place (finite.get k.records n) c.requires (c.has_row.ensures.records n) (λ here. absurd (true≢false (sym (c.has_row.ensures.placed.1 here) ∙ c.if-not-has_row.true))) in
-    applies-upsert _ _ _ _ _ c.args.upsert _ _
-    (applied-absent g.L.Listener.tells c.args.bounds.capacity c.args.bounds.policy k.ordered (contents_with c.args.sketch.now k) n c.args.upsert.generation c.args.upsert.weight c.args.upsert.hash k.written c.args.notifier.now none)
-    (upkeep-none k)
 
 pub returns-in_default : goal.returns-in_default
 returns-in_default g c =
     applies-upsert _ _ _ _ _ c.args.upsert _ _
     (applied-absent g.L.Listener.tells c.args.bounds.capacity c.args.bounds.policy c.args.store.now.ordered (contents_with c.args.sketch.now c.args.store.now) c.args.upsert.handle.number c.args.upsert.generation c.args.upsert.weight c.args.upsert.hash c.args.store.now.written c.args.notifier.now
-    (sym (c.in_default.ensures.found (c.has_row.ensures.placed.0 c.if-not-has_row.false))))
+    (not_found c.args.store.now.places c.args.upsert.handle.number c.args.upsert.handle.place _ c.requires (c.invariant_holds.ensures.records c.args.upsert.handle.number) c.in_default.ensures.found))
     (upkeep-none c.args.store.now)
 
 pub returns-then-applied-upsert : goal.returns-then-applied-upsert
 returns-then-applied-upsert g c =
     applies-upsert _ _ _ _ _ c.args.upsert _ _
-    (applied-overtaken g.L.Listener.tells c.args.bounds.capacity c.args.bounds.policy c.args.store.now.ordered (contents_with c.args.sketch.now c.args.store.now) c.args.upsert.handle.number c.args.upsert.generation c.args.upsert.weight c.args.upsert.hash (contents_with c.args.sketch.now c.move_to_back.new.store) c.args.store.now.written c.move_to_back.new.store.written c.in-Some.found (sym (c.in-Some.ensures.found (c.has_row.ensures.placed.0 c.if-not-has_row.false))) c.args.notifier.now c.args.notifier.now
+    (applied-overtaken g.L.Listener.tells c.args.bounds.capacity c.args.bounds.policy c.args.store.now.ordered (contents_with c.args.sketch.now c.args.store.now) c.args.upsert.handle.number c.args.upsert.generation c.args.upsert.weight c.args.upsert.hash (contents_with c.args.sketch.now c.move_to_back.new.store) c.args.store.now.written c.move_to_back.new.store.written c.in-Some.found (sym (c.in-Some.ensures.found (c.in-Some.ensures.handle refl).placed)) c.args.notifier.now c.args.notifier.now
     (omega (arith, c.applied.ensures)) (ap (λ (k : Kept g.row.K.Denot g.row.V.Denot g.row.S.Denot). contents_with c.args.sketch.now k) c.move_to_back.ensures.step) (λ _. ap (λ (k : Kept g.row.K.Denot g.row.V.Denot g.row.S.Denot). k.written) c.move_to_back.ensures.step) c.invariant_holds.ensures.listed refl)
     c.move_to_back.ensures.upkeep
 
 pub returns-then-is_member : goal.returns-then-is_member
 returns-then-is_member g c =
-    let found = sym (c.in-Some.ensures.found (c.has_row.ensures.placed.0 c.if-not-has_row.false)) in
+    let found = sym (c.in-Some.ensures.found (c.in-Some.ensures.handle refl).placed) in
     let seen = c.set_applied.ensures.step c.in-Some.found found in
     applies-upsert _ _ _ _ _ c.args.upsert _ _
     (applied-counted g.L.Listener.tells c.args.bounds.capacity c.args.bounds.policy c.args.store.now.ordered (contents_with c.args.sketch.now c.args.store.now) c.args.upsert.handle.number c.args.upsert.generation c.args.upsert.weight c.args.upsert.hash (contents_with c.args.sketch.now c.set_timer.new.self) c.args.store.now.written c.set_timer.new.self.written c.in-Some.found found c.args.notifier.now c.args.notifier.now

@@ -1,4 +1,4 @@
-use Rattle.std.proofs.Common.{List, subst, Contains}
+use Rattle.std.proofs.Common.{List, subst, Contains, rules}
 use Rattle.std.proofs.lemmas.List.Elements.{Contains-append_left, Contains-append_right}
 use Rattle.moka_maintenance.specs.declared.queued.QueuedWrite.{QueuedWrite}
 use Rattle.moka_maintenance.specs.Queued.{writes_of}
@@ -20,3 +20,6 @@ returns-clause-applied g c =
     let then = c.apply_each_write-2 in
     subst (λ (qs : List QueuedWrite). AppliesWrites g.L.Listener.tells c.args.bounds c.args.sketch.now c.args.store.now then.new.store (writes_of qs) c.args.notifier.now then.new.notifier) c.as_slices.ensures
     (writes-on g.L.Listener.tells c.args.bounds c.args.sketch.now c.args.store.now made.new.store then.new.store c.as_slices.result.0.now c.as_slices.result.1.now c.args.notifier.now made.new.notifier then.new.notifier made.ensures then.ensures)
+
+pub returns-clause-writes : goal.returns-clause-writes
+returns-clause-writes g c = search rules

@@ -1,4 +1,4 @@
-use Rattle.std.proofs.Common.{IsSome, sym, ap, subst, ◌∙◌}
+use Rattle.std.proofs.Common.{IsSome, sym, ap, subst, ◌∙◌, rules}
 use Rattle.std.specs.FinMap as finite
 use Rattle.moka_store.specs.Store.{Kept}
 use Rattle.moka_maintenance.proofs.Upkeep.{upkeep-on}
@@ -56,3 +56,6 @@ returns-then-chosen-clause-upkeep g c =
 
 pub returns-else-chosen-clause-upkeep : goal.returns-else-chosen-clause-upkeep
 returns-else-chosen-clause-upkeep g c = upkeep-on c.args.store.now c.choose-chosen.new.store c.reject.new.store (upkeep-chosen c.args.sketch.now c.args.store.now c.choose-chosen.new.store c.args.candidate.weight c.args.candidate.hash c.choose-chosen.result.victims c.choose-chosen.ensures.chosen c.choose-chosen.ensures.rest) c.reject.ensures.upkeep
+
+pub expel_front-requires : goal.expel_front-requires
+expel_front-requires g c = search rules

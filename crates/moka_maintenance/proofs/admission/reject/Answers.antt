@@ -1,4 +1,5 @@
-use Rattle.std.proofs.Common.{◌≡◌, sym, ap, ◌∙◌, is_some}
+use Rattle.std.proofs.Common.{◌≡◌, ℕ, Option, Some, sym, ap, ◌∙◌, is_some}
+use Rattle.moka_parts.specs.declared.records.Record.{Record}
 use Rattle.std.proofs.lemmas.Bool.{eq-eqb}
 use Rattle.moka_store.specs.Store.{Kept}
 use Rattle.moka_maintenance.proofs.Fates.{rejected-gone}
@@ -7,12 +8,13 @@ use Rattle.moka_parts.proofs.WriteList.{unlisted_taken_out}
 use Rattle.moka_maintenance.proofs.admission.reject.Goals as goal
 use Rattle.moka_maintenance.proofs.Upkeep.{upkeep-outside}
 
+-- the record that was found has this generation
+its_generation : {K V : Type 0} (o : Option (Record K V)) (r s : Record K V) (n m : ℕ) → o ≡ Some r → Some s ≡ o → n ≡ s.generation → n ≡ m → r.generation ≡ m
+its_generation o r s n m found there kept equal = cc
+
 pub returns-then-generation-clause-step : goal.returns-then-generation-clause-step
 returns-then-generation-clause-step g c = λ r found.
-    let there = sym found ∙ sym (c.in-Some.ensures.found c.requires.handle.placed) in
-    let kept = c.generation.ensures in
-    let equal = c.if-generation.true in
-    let same : r.generation ≡ c.args.generation = cc in
+    let same = its_generation _ r c.in-Some.present _ _ found (c.in-Some.ensures.found c.requires.handle.placed) c.generation.ensures c.if-generation.true in
     rejected-gone (contents_in c.args.store.now) (contents_in c.expel.new.store) c.args.handle.number c.args.generation r same c.requires.apart (ap (λ (s : Stock g.row.K.Denot g.row.V.Denot). s.contents) c.expel.ensures.step)
 
 pub returns-then-generation-clause-written : goal.returns-then-generation-clause-written
@@ -32,8 +34,5 @@ returns-else-generation-clause-upkeep g c =
 
 pub returns-then-generation-clause-told : goal.returns-then-generation-clause-told
 returns-then-generation-clause-told g c = λ r found.
-    let there = sym found ∙ sym (c.in-Some.ensures.found c.requires.handle.placed) in
-    let kept = c.generation.ensures in
-    let equal = c.if-generation.true in
-    let same : r.generation ≡ c.args.generation = cc in
+    let same = its_generation _ r c.in-Some.present _ _ found (c.in-Some.ensures.found c.requires.handle.placed) c.generation.ensures c.if-generation.true in
     rw (eq-eqb r.generation c.args.generation same) (rw found at c.expel.ensures.told)

@@ -25,6 +25,12 @@ some_counted : (o : Option (Handle × ℕ)) (xs ys : List Member) → ((n : ℕ)
 some_counted None xs ys same h = tt
 some_counted (Some f) xs ys same h = subst IsSome (sym (same f.0.number)) h
 
+heavy_by : (weight weights : ℕ) → weight ≤ weights → nat_le weight weights ≡ true
+heavy_by weight weights heavy = grind arith
+
+light_by : (weight weights : ℕ) → weights < weight → nat_le weight weights ≡ false
+light_by weight weights light = grind arith
+
 pub loop-weights-init : goal.loop-weights-init
 loop-weights-init g c =
     let k = contents_with c.args.sketch.now c.args.store.now in
@@ -91,7 +97,7 @@ returns-then-weights-weight-clause-chosen g c =
     let k = contents_with c.args.sketch.now c.args.store.now in
     let l = c.loop-weights in
     let seen = c.from-frequency.ensures ∙ c.frequency.ensures in
-    let heavy : nat_le c.from-weight.result l.weights ≡ true = (let enough = c.if-weights-weight.true in grind arith) in
+    let heavy : nat_le c.from-weight.result l.weights ≡ true = heavy_by _ _ c.if-weights-weight.true in
     subst (Chooses k c.args.weight c.args.hash l.store.access l.victims) (ap (λ b. b && nat_lt l.frequencies (frequency c.args.sketch.now c.args.hash)) heavy ∙ ap (nat_lt l.frequencies) (sym seen))
     (subst (λ w. Chooses k w c.args.hash l.store.access l.victims (nat_le c.from-weight.result l.weights && nat_lt l.frequencies (frequency c.args.sketch.now c.args.hash))) c.from-weight.ensures
     (walks-over k c.from-weight.result c.args.hash c.invariant_holds.ensures.distinct l.invariant.walks (inl c.if-weights-weight.true)))
@@ -101,8 +107,7 @@ returns-else-weights-weight-clause-chosen g c =
     let k = contents_with c.args.sketch.now c.args.store.now in
     let l = c.loop-weights in
     let seen = c.from-frequency.ensures ∙ c.frequency.ensures in
-    let light = c.if-weights-weight.false in
-    let not_heavy : nat_le c.from-weight.result l.weights ≡ false = grind arith in
+    let not_heavy : nat_le c.from-weight.result l.weights ≡ false = light_by _ _ c.if-weights-weight.false in
     let over : (c.from-weight.result ≤ l.weights) ⊎ ((frequency c.args.sketch.now c.args.hash < l.frequencies) ⊎ ((6 ≤ l.unsettled) ⊎ (named l.next ≡ None))) = elim c.loop-weights-test.branch [
       | then-loop-weights-test+then-frequencies-frequency+else-unsettled-lt-MOST_UNSETTLED w ↦ inr (inr (inl w.if-unsettled-lt-MOST_UNSETTLED.false))
       | then-loop-weights-test+else-frequencies-frequency w ↦ inr (inl (subst (λ n. n < l.frequencies) seen w.if-frequencies-frequency.false))

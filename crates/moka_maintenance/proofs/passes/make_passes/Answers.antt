@@ -1,4 +1,4 @@
-use Rattle.std.proofs.Common.{arith, rules, Bool, option_map, subst, sym, ◌∙◌, refl, true, false, true≢false, ◌+◌}
+use Rattle.std.proofs.Common.{arith, Bool, option_map, subst, sym, ◌∙◌, refl, true, false, true≢false, ◌+◌}
 use Rattle.std.specs.Duration.{as_nanos}
 use Rattle.moka_maintenance.specs.Steps.{stock_in}
 use Rattle.moka_maintenance.specs.Passes.{IsRan}
@@ -14,7 +14,7 @@ loop-terms-init g c = record {
 }
 
 pub overflow_add-passes : goal.overflow_add-passes
-overflow_add-passes g c = let few = moving-few g.L.Listener.tells g.P.PredicateFn.says c.args.terms.tests c.args.terms.batch c.loop-terms.store.ordered _ _ _ _ _ _ _ c.loop-terms.invariant.moving in let count = c.member_count-members.ensures.value in let bound = c.member_count-members.ensures.few in (search rules)
+overflow_add-passes g c = let few = moving-few g.L.Listener.tells g.P.PredicateFn.says c.args.terms.tests c.args.terms.batch c.loop-terms.store.ordered _ _ _ _ _ _ _ c.loop-terms.invariant.moving in let count = c.member_count-members.ensures.value in let bound = c.member_count-members.ensures.few in omega arith
 
 pub returns-then-not-goes_on-clause-ran : goal.returns-then-not-goes_on-clause-ran
 returns-then-not-goes_on-clause-ran g c =

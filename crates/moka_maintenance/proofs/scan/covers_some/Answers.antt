@@ -1,5 +1,6 @@
-use Rattle.std.proofs.Common.{◌≡◌, Some, is_some, inl, inr, refl, sym, ap, subst, ◌∙◌, arith}
+use Rattle.std.proofs.Common.{◌≡◌, Some, is_some, inl, inr, refl, sym, ap, subst, ◌∙◌, arith, true≢false}
 use Rattle.std.proofs.lemmas.Bool.{cases_eq}
+use Rattle.std.proofs.lemmas.Option.{none-some, same_Some}
 use Rattle.std.specs.FinMap as finite
 use Rattle.moka_parts.specs.declared.records.Record.{Record}
 use Rattle.moka_parts.specs.Visibility.{Covers}
@@ -18,10 +19,8 @@ loop-place-preserved g c p is n at r placed below there covers = elim (cases_eq 
       elim c.match-record_at.branch [
         | in-Some+else-covers_at w ↦
             let same : Some w.in-Some.found ≡ Some r = w.in-Some.ensures.found n placed_here ∙ there in
-            let is_r : w.in-Some.found ≡ r = cc in
-            let no = (w.if-covers_at.ensures p is).1 (subst (λ (x : Record g.row.K.Denot g.row.V.Denot). Covers g.P.PredicateFn.says p x) (sym is_r) covers) in
-            cc
-        | in_default w ↦ (let none = w.in_default.ensures.found n placed_here ∙ there in cc)
+            true≢false (sym ((w.if-covers_at.ensures p is).1 (subst (λ (x : Record g.row.K.Denot g.row.V.Denot). Covers g.P.PredicateFn.says p x) (sym (same_Some _ _ same)) covers)))
+        | in_default w ↦ none-some r (w.in_default.ensures.found n placed_here ∙ there)
       ]
 ]
 

@@ -1,4 +1,5 @@
 use Rattle.std.proofs.Common.{◌≡◌, true, false, Some, inl, inr, refl, sym, ap, subst, ◌∙◌}
+use Rattle.std.proofs.lemmas.Option.{same_Some}
 use Rattle.std.specs.Option.{option_map_or}
 use Rattle.moka_parts.specs.Records.{is_applied, is_settled}
 use Rattle.moka_parts.specs.Visibility.{NoneCovers}
@@ -34,7 +35,7 @@ returns-else-apply_predicates g c =
       inl (
         refl,
         refl,
-        λ r is. (let there : Some c.in-Some.found ≡ Some r = sym found ∙ is in let same : c.in-Some.found ≡ r = cc in subst (NoneCovers g.P.PredicateFn.says c.args.invalidator.now) same c.if-apply_predicates.ensures),
+        λ r is. (let there : Some c.in-Some.found ≡ Some r = sym found ∙ is in subst (NoneCovers g.P.PredicateFn.says c.args.invalidator.now) (same_Some _ _ there) c.if-apply_predicates.ensures),
       ),
     )
 

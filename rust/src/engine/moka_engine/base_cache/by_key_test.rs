@@ -2,7 +2,8 @@
 //! Look-ups and removals by a test of the key in place of a key.
 use crate::support::prelude::*;
 
-use super::{BaseCache, Look, ReadHit};
+use super::BaseCache;
+use super::gets::Hit;
 use crate::engine::moka_inner::Hashes;
 use crate::engine::moka_parts::calls::{Entry, KvEntry, Ticket};
 use crate::engine::moka_parts::closures::{NoTest, PredicateFn, Weigher};
@@ -13,19 +14,6 @@ use crate::engine::moka_parts::notification::Listener;
 use crate::engine::moka_parts::policy::{Expiry, Instant};
 use crate::engine::moka_store::IndexHash;
 use crate::support::hash::{BuildHasher, Hash};
-
-// A key, as the test that it and what is equal to it pass.
-#[derive(Clone, Copy)]
-pub(super) struct SameKey<'a, K>(pub(super) &'a K);
-
-impl<'a, K: Eq + Hash> KeyTest<K> for SameKey<'a, K> {
-
-    #[inline(always)]
-    fn is_key(&self, key: &K) -> bool {
-        *self.0 == *key
-    }
-
-}
 
 impl<
     K: Eq + Hash,
@@ -80,28 +68,24 @@ impl<
         V: Clone,
     {
         let own = IndexHash::of(hash);
-        let look = Look {
-            test,
-            hashes: Hashes { hash, own },
-            need_key,
-            now,
-        };
-        self.get_hashed(look, &mut NoTest, clock)
+        let sought = (test, Hashes { hash, own });
+        self.get_hashed(sought, need_key, now, &mut NoTest, clock)
     }
 
-    // Makes the run that is due, and queues a hit of the record whose key passes. The run may remove that record, so
-    // its place is looked up again.
+    // Makes the run that is due, and queues a hit of the record whose key passes, with its number and first hash. The
+    // run may remove that record, so its place is looked up again.
     #[inline(always)]
     pub(super) fn record_hit_by<T: KeyTest<K>, C: Clock>(
         &mut self,
         sought: (&T, IndexHash),
-        hit: ReadHit,
-        now: Instant,
+        number: u64,
+        hash: u64,
+        hit: Hit,
         clock: &mut C,
     )
     {
-        self.run_by_housekeeper(now, clock);
+        self.run_by_housekeeper(hit.read, clock);
         self.inner
-            .queue_hit_by(sought, hit.number, hit.hash, hit.renewed);
+            .queue_hit_by(sought, number, hash, hit.is_renewed);
     }
 }

@@ -30,7 +30,8 @@ impl<'a, X> Moments<'a, X> {
     #[inline(always)]
     pub(super) fn hide<K, V>(&self, found: &RecordRef<'_, K, V>) -> bool
     {
-        let (policy, valid_after) = (self.policy, *self.valid_after);
+        let policy = self.policy;
+        let valid_after = *self.valid_after;
         let may_hide = policy.is_set() | valid_after.is_some();
         may_hide && has_lapsed(found, policy, valid_after, self.now)
     }
@@ -100,11 +101,11 @@ pub(super) fn hit_of<K, V, X: Expiry<K, V>>(
             is_renewed: false,
         };
     };
-    let (expires, written) = (found.expires(), found.written());
+    let written = found.written();
     let read = now.max(written);
     let left = left_at(found, policy, read);
     let answer = expiry.expire_after_read(found.key(), found.value(), read, left, written);
-    let (expires, is_renewed) = renewed(expires, left, answer, read);
+    let (expires, is_renewed) = renewed(found.expires(), left, answer, read);
     Hit {
         read,
         expires,
@@ -144,7 +145,8 @@ fn left_at<K, V, X>(
     read: Instant,
 ) -> Option<Duration>
 {
-    let (live, idle) = (policy.time_to_live(), policy.time_to_idle());
+    let live = policy.time_to_live();
+    let idle = policy.time_to_idle();
     remaining(
         found.expires(),
         found.written(),
@@ -155,18 +157,26 @@ fn left_at<K, V, X>(
     )
 }
 
-// A clone of the record's value, with one of its key if that is asked for.
+// A clone of the record's value, with one of its key if that is asked for; the record's first hash; and what a hit makes
+// of it.
 #[inline(always)]
-pub(super) fn entry_of<K: Clone, V: Clone>(
+pub(super) fn entry_and_hit<K: Clone, V: Clone, X: Expiry<K, V>>(
     found: &RecordRef<'_, K, V>,
     need_key: bool,
-) -> Result<Entry<K, V>, OutOfMemory>
+    moments: &Moments<'_, X>,
+) -> Result<(Entry<K, V>, u64, Hit), OutOfMemory>
 {
-    let value = found.value().try_clone()?;
+    let Ok(value) = found.value().try_clone() else {
+        return Err(OutOfMemory);
+    };
     let key = if need_key {
-        Some(found.key().try_clone()?)
+        let Ok(key) = found.key().try_clone() else {
+            return Err(OutOfMemory);
+        };
+        Some(key)
     } else {
         None
     };
-    Ok(Entry { key, value })
+    let hit = hit_of(found, moments.policy, moments.now);
+    Ok((Entry { key, value }, found.hash(), hit))
 }

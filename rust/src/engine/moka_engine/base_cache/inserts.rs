@@ -54,7 +54,8 @@ pub(super) fn expires_at_update<K, V, X: Expiry<K, V>>(
     if is_expired_by_per_entry_ttl(expires, now) {
         return deadline_of(expiry.expire_after_create(key, value, now), now);
     }
-    let (live, idle) = (policy.time_to_live(), policy.time_to_idle());
+    let live = policy.time_to_live();
+    let idle = policy.time_to_idle();
     let left = remaining(expires, now, now, live, idle, now);
     let answer = expiry.expire_after_update(key, value, now, left);
     renewed(expires, left, answer, now).0

@@ -3,15 +3,14 @@
 //! moka: `sync::base_cache::BaseCache`, `common::concurrent::ScanningGet`.
 use crate::support::prelude::*;
 
-use super::by_key_test::SameKey;
+use super::BaseCache;
 use super::gets::{self, Moments};
-use super::{BaseCache, Look, ReadHit};
 use crate::engine::moka_inner::Hashes;
 use crate::engine::moka_parts::calls::Entry;
 use crate::engine::moka_parts::closures::{NoTest, PredicateFn, ValueTest, Weigher};
 use crate::engine::moka_parts::error::OutOfMemory;
 use crate::engine::moka_parts::housekeeper::Clock;
-use crate::engine::moka_parts::key_test::KeyTest;
+use crate::engine::moka_parts::key_test::{KeyTest, SameKey};
 use crate::engine::moka_parts::notification::Listener;
 use crate::engine::moka_parts::policy::{Expiry, Instant};
 use crate::support::hash::{BuildHasher, Hash};
@@ -47,13 +46,8 @@ impl<
         match ignore_if {
             Some(test) => {
                 let own = self.inner.index_hash(key);
-                let look = Look {
-                    test: &SameKey(key),
-                    hashes: Hashes { hash, own },
-                    need_key,
-                    now,
-                };
-                self.get_hashed(look, test, clock)
+                let sought = (&SameKey(key), Hashes { hash, own });
+                self.get_hashed(sought, need_key, now, test, clock)
             }
             None => self.get_with_hash(key, hash, need_key, now, clock),
         }
@@ -63,7 +57,9 @@ impl<
     #[inline(always)]
     pub(super) fn get_hashed<T: KeyTest<K>, I: ValueTest<V>, C: Clock>(
         &mut self,
-        look: Look<'_, T>,
+        sought: (&T, Hashes),
+        need_key: bool,
+        now: Instant,
         ignore_if: &mut I,
         clock: &mut C,
     ) -> Result<Option<Entry<K, V>>, OutOfMemory>
@@ -71,33 +67,23 @@ impl<
         K: Clone,
         V: Clone,
     {
-        let Look {
-            test,
-            hashes,
-            need_key,
-            now,
-        } = look;
-        let policy = &self.expiration_policy;
+        let (test, Hashes { hash: given, own }) = sought;
         let moments = Moments {
-            policy,
+            policy: &self.expiration_policy,
             valid_after: &self.valid_after,
             now,
         };
-        let sought = (test, hashes.own);
+        let sought = (test, own);
         let shown = gets::find_unless(&self.inner, &moments, &self.invalidator, sought, ignore_if);
         let Some((handle, found)) = shown else {
-            self.record_miss(hashes.hash, now, clock);
+            self.record_miss(given, now, clock);
             return Ok(None);
         };
-        let entry = gets::entry_of(&found, need_key)?;
-        let (hash, hit) = (found.hash(), gets::hit_of(&found, policy, now));
+        let Ok((entry, hash, hit)) = gets::entry_and_hit(&found, need_key, &moments) else {
+            return Err(OutOfMemory);
+        };
         if gets::note_hit(&mut self.inner, &self.housekeeper, handle, hash, hit) {
-            let read = ReadHit {
-                number: handle.number,
-                hash,
-                renewed: hit.is_renewed,
-            };
-            self.record_hit_by(sought, read, hit.read, clock);
+            self.record_hit_by(sought, handle.number, hash, hit, clock);
             return Ok(Some(entry));
         }
         Ok(Some(entry))
@@ -135,20 +121,20 @@ impl<
     where
         V: Clone,
     {
-        let own = self.inner.index_hash(key);
-        let policy = &self.expiration_policy;
         let moments = Moments {
-            policy,
+            policy: &self.expiration_policy,
             valid_after: &self.valid_after,
             now,
         };
-        let sought = (&SameKey(key), own);
+        let sought = (&SameKey(key), self.inner.index_hash(key));
         let shown = gets::find_unless(&self.inner, &moments, &self.invalidator, sought, test);
         let Some((handle, found)) = shown else {
             return Ok(None);
         };
-        let value = found.value().try_clone()?;
-        let hit = gets::hit_of(&found, policy, now);
+        let Ok(value) = found.value().try_clone() else {
+            return Err(OutOfMemory);
+        };
+        let hit = gets::hit_of(&found, moments.policy, now);
         self.inner
             .touch(handle, hit.read, hit.expires, hit.is_renewed);
         Ok(Some(value))
@@ -169,6 +155,9 @@ impl<
         let Some((_, found)) = shown else {
             return Ok(None);
         };
-        Ok(Some(found.value().try_clone()?))
+        match found.value().try_clone() {
+            Ok(value) => Ok(Some(value)),
+            Err(_) => Err(OutOfMemory),
+        }
     }
 }

@@ -70,17 +70,19 @@ impl<'a, K: Eq + Hash, V, S: BuildHasher, X, P: PredicateFn<K, V>> Iterator
     fn next(&mut self) -> Option<SnapshotEntry<'a, K, V>> {
         let (found, at) = next_shown(self.inner, self.at, &self.moments, self.invalidator);
         self.at = at;
-        let (policy, now) = (self.moments.policy, self.moments.now);
         let found = found?;
-        let (written, read) = (found.written(), found.read());
-        let (live, idle) = (policy.time_to_live(), policy.time_to_idle());
+        let policy = self.moments.policy;
+        let written = found.written();
+        let read = found.read();
+        let live = policy.time_to_live();
+        let idle = policy.time_to_idle();
         Some(SnapshotEntry {
             key: found.key(),
             value: found.value(),
             last_modified: written,
             last_accessed: read,
             expires: found.expires(),
-            remaining: remaining(found.expires(), written, read, live, idle, now),
+            remaining: remaining(found.expires(), written, read, live, idle, self.moments.now),
         })
     }
 }
@@ -94,7 +96,9 @@ fn next_shown<'a, K: Eq + Hash, V, S: BuildHasher, X, P: PredicateFn<K, V>>(
 ) -> (Option<RecordRef<'a, K, V>>, Option<Handle>)
 {
     inner.members_stand_once();
-    let (policy, valid_after, now) = (moments.policy, *moments.valid_after, moments.now);
+    let policy = moments.policy;
+    let valid_after = *moments.valid_after;
+    let now = moments.now;
     let mut at = at;
     while let Some(handle) = at {
         at = handle_of(inner.next_member(handle));

@@ -16,7 +16,7 @@ fn is_key_at<K: Eq + Hash, V, T: KeyTest<K>>(
     test: &T,
 ) -> bool
 {
-    table.key(place).is_some_and(|own| test.is_key(own))
+    matches!(table.key(place), Some(own) if test.is_key(own))
 }
 
 impl<K: Eq + Hash, V, S: BuildHasher> Store<K, V, S> {

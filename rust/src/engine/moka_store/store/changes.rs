@@ -39,13 +39,6 @@ pub(crate) fn reserve_rows<K, V>(
     Ok(())
 }
 
-// Whether the record at this place has an equal key.
-#[inline(always)]
-pub(crate) fn has_key<K: Eq, V>(table: &RecordTable<K, V>, place: usize, key: &K) -> bool
-{
-    table.key(place).is_some_and(|own| *key == *own)
-}
-
 // The handle of the record at this place, and that record.
 #[inline(always)]
 pub(crate) fn live_at<K, V>(

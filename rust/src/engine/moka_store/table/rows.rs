@@ -3,7 +3,7 @@
 use crate::support::prelude::*;
 
 use super::membership::Membership;
-use super::slot::{FrontRef, Slot};
+use super::slot::Slot;
 use crate::engine::moka_store::store::Update;
 use crate::engine::moka_parts::policy::Instant;
 use crate::engine::moka_parts::record_ref::Front;
@@ -69,46 +69,11 @@ impl<K, V> Rows<K, V> {
         place
     }
 
-    // What stands at this place, if it is one.
+    /// What stands at this place, if it is one.
     #[inline(always)]
-    fn slot(&self, place: usize) -> Option<&Slot<K, V>>
+    pub(crate) fn at(&self, place: usize) -> Option<&Slot<K, V>>
     {
         self.slots.get(place)
-    }
-
-    /// The number of the row at this place.
-    #[inline(always)]
-    pub(crate) fn number(&self, place: usize) -> Option<u64>
-    {
-        self.slot(place)?.number()
-    }
-
-    /// The number and the record at this place, if the record is in the map.
-    #[inline(always)]
-    pub(crate) fn live(&self, place: usize) -> Option<(u64, FrontRef<'_, K, V>)>
-    {
-        self.slot(place)?.live()
-    }
-
-    /// The key of the record at this place, if the record is in the map.
-    #[inline(always)]
-    pub(crate) fn key(&self, place: usize) -> Option<&K>
-    {
-        self.slot(place)?.key()
-    }
-
-    /// The membership of the row at this place, with no weight.
-    #[inline(always)]
-    pub(crate) fn membership(&self, place: usize) -> Option<Membership>
-    {
-        self.slot(place)?.membership()
-    }
-
-    /// The slot among the timers of the row at this place.
-    #[inline(always)]
-    pub(crate) fn timer(&self, place: usize) -> Option<u32>
-    {
-        self.slot(place)?.timer()
     }
 
     /// The record at this place was read at this moment, and now expires by itself or does not: as before, unless that

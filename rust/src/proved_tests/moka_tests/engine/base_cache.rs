@@ -52,7 +52,7 @@ fn cache_of<V, L: Listener<u64, V>, W: Weigher<u64, V>>(
 ) -> Result<TestCache<V, L, W>, Fail> {
     let mut expirations = ExpirationPolicy::default();
     expirations.set_time_to_idle(Duration::from_nanos(100));
-    let cache = TestCache::new(
+    Ok(TestCache::new(
         alloc,
         None,
         max_capacity,
@@ -66,8 +66,7 @@ fn cache_of<V, L: Listener<u64, V>, W: Weigher<u64, V>>(
         false,
         Instant(0),
         1,
-    );
-    cache.map_err(|_| Fail::from("memory"))
+    )?)
 }
 
 /// Makes a run at this moment with a batch of 1, and tells whether more is left.
@@ -173,11 +172,10 @@ fn get_unless_ten(cache: &mut NumberCache, key: u64) -> Result<(Option<u64>, u32
         *value == 10
     };
     let test = Some(&mut is_ten);
-    let found = cache.get_with_hash_and_ignore_if(&key, key, test, true, now, &mut FixedClock(now));
-    let Ok(entry) = found else {
-        return Err("memory".into());
-    };
-    Ok((entry.map(|entry| entry.value), asked))
+    match cache.get_with_hash_and_ignore_if(&key, key, test, true, now, &mut FixedClock(now))? {
+        Some(entry) => Ok((Some(entry.value), asked)),
+        None => Ok((None, asked)),
+    }
 }
 
 fn check_look_ups(rt: &impl Abort, cache: &mut NumberCache) -> Result<(), Fail> {

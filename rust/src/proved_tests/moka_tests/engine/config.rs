@@ -66,8 +66,7 @@ fn config(name: String) -> CacheConfig<Expiries, NoListener, NoPredicate, ByKey>
 }
 
 fn chosen(alloc: Global) -> Result<Chosen, Fail> {
-    let built = config(crate::support::test::text!("texts")?).build(alloc, Instant(0));
-    built.map_err(|_| Fail::from("memory"))
+    Ok(config(crate::support::test::text!("texts")?).build(alloc, Instant(0))?)
 }
 
 fn check_parts(rt: &impl Abort, cache: &Chosen) {

@@ -4,9 +4,11 @@ use crate::support::prelude::*;
 #[cfg(test)]
 use crate::support::test::prelude::*;
 
+use crate::proved_tests::moka_tests::equal::assert_equal;
 use crate::engine::moka_index::PlaceIndex;
 use crate::support::alloc::AllocError;
 use crate::support::collections::HashMap;
+use crate::support::test::process::Abort;
 use crate::support::test::test::Fail;
 
 const STEPS: usize = 10_000;
@@ -46,12 +48,14 @@ fn toggle(
     Ok(())
 }
 
-#[test]
-fn ten_thousand_steps_agree_with_a_map() -> Result<(), Fail> {
-    let rt = HostRuntime;
-    let mut index = PlaceIndex::new(rt.alloc());
-    let mut places: HashMap<u32, usize> = HashMap::new(rt.alloc());
-    let mut keys = Vec::new(rt.alloc());
+// Toggles keys in both, which agree on each.
+fn check_steps(
+    rt: &impl Abort,
+    index: &mut PlaceIndex,
+    places: &mut HashMap<u32, usize>,
+    keys: &mut Vec<u32>,
+) -> Result<(), Fail>
+{
     let mut random: u64 = 1;
     for place in 0..STEPS {
         random = random
@@ -60,17 +64,32 @@ fn ten_thousand_steps_agree_with_a_map() -> Result<(), Fail> {
         let key = (random >> 33) as u32 % KEYS;
         keys.push(key)?;
         let hash = hash_of(key);
-        let found = find(&index, &keys, hash, key);
-        assert_eq!( found, places.get(&key).copied());
-        toggle(&mut index, hash, found, place)?;
+        let found = find(index, keys.as_slice(), hash, key);
+        assert_equal(rt, found, places.get(&key).copied());
+        toggle(index, hash, found, place)?;
         if places.remove(&key).is_none() {
             places.insert(key, place)?;
         }
-        assert_eq!( index.len(), places.len());
+        assert_equal(rt, index.len(), places.len());
     }
+    Ok(())
+}
+
+// Both agree on all keys.
+fn check_keys(rt: &impl Abort, index: &PlaceIndex, places: &HashMap<u32, usize>, keys: &[u32]) {
     for key in 0..KEYS {
-        let found = find(&index, &keys, hash_of(key), key);
-        assert_eq!( found, places.get(&key).copied());
+        let found = find(index, keys, hash_of(key), key);
+        assert_equal(rt, found, places.get(&key).copied());
     }
+}
+
+#[test]
+fn ten_thousand_steps_agree_with_a_map() -> Result<(), Fail> {
+    let rt = HostRuntime;
+    let mut index = PlaceIndex::new(rt.alloc());
+    let mut places: HashMap<u32, usize> = HashMap::new(rt.alloc());
+    let mut keys = Vec::new(rt.alloc());
+    check_steps(&rt, &mut index, &mut places, &mut keys)?;
+    check_keys(&rt, &index, &places, keys.as_slice());
     Ok(())
 }

@@ -3,6 +3,7 @@
 use crate::support::prelude::*;
 #[cfg(test)]
 use crate::support::test::prelude::*;
+use crate::proved_tests::moka_tests::equal::assert_equal;
 use crate::engine::moka_parts::closures::PredicateFn;
 use crate::engine::moka_parts::error::PredicateError;
 use crate::engine::moka_parts::invalidator::{IdSource, Invalidator, PredicateId};
@@ -107,8 +108,18 @@ fn register_three(registry: &mut Registry) -> Result<(), Fail> {
     Ok(())
 }
 
+// Whether there is a predicate at a place, which covers a record of this value, written then.
+fn covers_at(registry: &Registry, place: usize, value: u64, moment: Instant) -> bool {
+    if place >= registry.len() {
+        return false;
+    }
+    let (front, cold) = record_ref::split(written(value, moment));
+    let record = RecordRef::new(1, &front.hot, front.expiring, &cold);
+    registry.covers_at(place, &record)
+}
+
 fn check_covered(rt: &impl Abort, registry: &Registry) {
-    assert_eq!( registry.len(), 3);
+    assert_equal(rt, registry.len(), 3);
     for (value, moment, is_covered) in [
         (7, Instant(4), true),
         (7, Instant(5), true),
@@ -116,15 +127,10 @@ fn check_covered(rt: &impl Abort, registry: &Registry) {
         (8, Instant(5), true),
         (9, Instant(6), false),
     ] {
-        assert_eq!(
-            covers(registry, value, moment),
-            is_covered,
-            "{value} written at {moment:?}"
-        );
+        let found = covers(registry, value, moment);
+        assert_equal(rt, (value, moment, found), (value, moment, is_covered));
     }
-    let (front, cold) = record_ref::split(written(7, Instant(6)));
-    let record = RecordRef::new(1, &front.hot, front.expiring, &cold);
-    assert!( registry.covers_at(2, &record));
+    assert!( covers_at(registry, 2, 7, Instant(6)));
 }
 
 /// Removes each predicate, which was asked so often.
@@ -132,10 +138,8 @@ fn check_removed(rt: &impl Abort, registry: &mut Registry) {
     for (id, asked) in [(2, 1), (3, 3), (4, 3)] {
         assert!( !registry.is_empty());
         let registered = registry.remove(0);
-        assert_eq!(
-            (registered.id, registered.predicate.asked.get()),
-            (Uuid::from_u128(id), asked)
-        );
+        let found = (registered.id, registered.predicate.asked.get());
+        assert_equal(rt, found, (Uuid::from_u128(id), asked));
     }
     assert!( registry.is_empty());
 }
@@ -152,11 +156,8 @@ fn asks_only_what_was_registered_no_earlier() -> Result<(), Fail> {
     Ok(())
 }
 
-#[test]
-fn names_the_first_that_covers() -> Result<(), Fail> {
-    let rt = HostRuntime;
-    let mut registry = Invalidator::new(rt.alloc());
-    register_three(&mut registry)?;
+/// Which predicate is the first to cover a record.
+fn check_first(rt: &impl Abort, registry: &Registry) {
     for (value, moment, id) in [
         (7, Instant(4), Some(2)),
         (8, Instant(5), Some(3)),
@@ -164,12 +165,18 @@ fn names_the_first_that_covers() -> Result<(), Fail> {
         (7, Instant(7), None),
         (9, Instant(6), None),
     ] {
-        assert_eq!(
-            first_covering(&registry, value, moment),
-            id.map(Uuid::from_u128),
-            "{value} written at {moment:?}"
-        );
+        let found = first_covering(registry, value, moment);
+        let first = id.map(Uuid::from_u128);
+        assert_equal(rt, (value, moment, found), (value, moment, first));
     }
+}
+
+#[test]
+fn names_the_first_that_covers() -> Result<(), Fail> {
+    let rt = HostRuntime;
+    let mut registry = Invalidator::new(rt.alloc());
+    register_three(&mut registry)?;
+    check_first(&rt, &registry);
     Ok(())
 }
 
@@ -178,26 +185,25 @@ fn check_repeats(rt: &impl Abort, registry: &mut Registry) -> Result<(), Fail> {
     for (repeats, id) in [(1, 1), (999, 2), (998, 3)] {
         let mut ids = Repeating { repeats, given: 0 };
         let found = register(registry, id, Instant(1), &mut ids)?;
-        assert_eq!( found, Uuid::from_u128(u128::from(id)));
+        assert_equal(rt, found, Uuid::from_u128(u128::from(id)));
     }
     Ok(())
 }
 
 /// The thousandth is given again as well.
-fn check_refused(rt: &impl Abort, registry: &mut Registry) -> Result<(), Fail> {
+fn check_refused(rt: &impl Abort, registry: &mut Registry) {
     let mut ids = Repeating {
         repeats: 1000,
         given: 0,
     };
     match registry.register_predicate(IsValue::new(5), Instant(1), &mut ids) {
-        Ok(_) => return Err(Fail::from("registered")),
+        Ok(_) => panic!( "registered"),
         Err(refused) => {
-            assert_eq!( refused.error, PredicateError::NoFreeId);
-            assert_eq!( refused.predicate.value, 5);
+            let back = (refused.error, refused.predicate.value);
+            assert_equal(rt, back, (PredicateError::NoFreeId, 5));
         }
     }
-    assert_eq!( (ids.given, registry.len()), (1000, 3));
-    Ok(())
+    assert_equal(rt, (ids.given, registry.len()), (1000, 3));
 }
 
 #[test]
@@ -205,5 +211,6 @@ fn asks_for_1000_identifiers() -> Result<(), Fail> {
     let rt = HostRuntime;
     let mut registry = Invalidator::new(rt.alloc());
     check_repeats(&rt, &mut registry)?;
-    check_refused(&rt, &mut registry)
+    check_refused(&rt, &mut registry);
+    Ok(())
 }

@@ -7,7 +7,6 @@ use crate::proved_tests::moka_tests::equal::assert_equal;
 use crate::engine::moka_parts::notification::{Listener, NoListener, RemovalCause, RemovalNotifier};
 
 /// Keeps the last value that it was told of, and counts.
-#[derive(Clone, Copy, Debug, PartialEq, Eq)]
 struct LastValue {
     heard: Option<(u8, u64, RemovalCause)>,
 }
@@ -26,8 +25,11 @@ fn tells_the_listener() {
     assert!( notifier.is_enabled());
     notifier.notify(1, 10, RemovalCause::Size);
     notifier.notify(2, 20, RemovalCause::Expired);
-    let heard = Some((2, 20, RemovalCause::Expired));
-    assert_equal(&rt, notifier.listener().copied(), Some(LastValue { heard }));
+    let heard = match notifier.listener() {
+        Some(last) => last.heard,
+        None => None,
+    };
+    assert_equal(&rt, heard, Some((2, 20, RemovalCause::Expired)));
 }
 
 #[test]
@@ -51,6 +53,6 @@ fn knows_evictions() {
         (RemovalCause::Replaced, false),
         (RemovalCause::Size, true),
     ] {
-        assert_eq!( cause.was_evicted(), was_evicted, "{cause:?}");
+        assert_equal(&rt, (cause, cause.was_evicted()), (cause, was_evicted));
     }
 }

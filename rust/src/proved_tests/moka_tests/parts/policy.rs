@@ -4,7 +4,7 @@ use crate::support::prelude::*;
 #[cfg(test)]
 use crate::support::test::prelude::*;
 use crate::proved_tests::moka_tests::equal::assert_equal;
-use crate::proved_tests::moka_tests::printed::check;
+use crate::proved_tests::moka_tests::printed::check_all;
 use crate::engine::moka_parts::policy::{
     EvictionPolicy, ExpirationPolicy, ExpireAfter, ExpireAfterCreate, Expiry, Instant, NoExpiry,
     Policy,
@@ -27,15 +27,14 @@ impl ExpireAfterCreate<u8, u64> for BySeconds {
 #[test]
 fn prints_eviction_policies() -> Result<(), Fail> {
     let rt = HostRuntime;
-    let default = EvictionPolicy::default();
-    for (policy, text) in [
-        (EvictionPolicy::tiny_lfu(), "EvictionPolicy::TinyLfu"),
-        (EvictionPolicy::lru(), "EvictionPolicy::Lru"),
-        (default, "EvictionPolicy::TinyLfu"),
-    ] {
-        check(&rt, &format_args!("{policy:?}"), text)?;
-    }
-    Ok(())
+    check_all(
+        &rt,
+        &[
+            (EvictionPolicy::tiny_lfu(), "EvictionPolicy::TinyLfu"),
+            (EvictionPolicy::lru(), "EvictionPolicy::Lru"),
+            (EvictionPolicy::default(), "EvictionPolicy::TinyLfu"),
+        ],
+    )
 }
 
 /// A policy tells of these expirations and of what else it was made with.

@@ -4,8 +4,10 @@ use crate::support::prelude::*;
 #[cfg(test)]
 use crate::support::test::prelude::*;
 
+use crate::proved_tests::moka_tests::equal::assert_equal;
 use crate::engine::moka_wheel::TimerWheel;
 use crate::support::alloc::{AllocError, Global};
+use crate::support::test::process::Abort;
 use crate::support::test::test::Fail;
 
 // Slots are less than this.
@@ -145,17 +147,21 @@ impl Both {
     }
 }
 
+fn check_steps(rt: &impl Abort, both: &mut Both, state: &mut u64) -> Result<(), AllocError> {
+    for number in 0..200 {
+        assert!( both.step(state, number)?, "at step {number}");
+    }
+    assert!( both.advance_to(u64::MAX));
+    assert_equal(rt, both.wheel.len(), 0);
+    Ok(())
+}
+
 #[test]
 fn both_hand_out_the_same_timers() -> Result<(), Fail> {
     let rt = HostRuntime;
     let mut state = 1;
     for _ in 0..50 {
-        let mut both = Both::new(rt.alloc())?;
-        for number in 0..200 {
-            assert!( both.step(&mut state, number)?, "at step {number}");
-        }
-        assert!( both.advance_to(u64::MAX));
-        assert_eq!( both.wheel.len(), 0);
+        check_steps(&rt, &mut Both::new(rt.alloc())?, &mut state)?;
     }
     Ok(())
 }

@@ -3,7 +3,7 @@
 use crate::support::prelude::*;
 
 use crate::replay::moka_script::key_range::KeyRange;
-use crate::replay::moka_script::lex::{alone, lone_number, number, number_or_none, small_number};
+use crate::replay::moka_script::lex::{alone, key_at, lone_number, number, number_or_none, small_number};
 use crate::replay::moka_script::word::Word;
 use crate::engine::moka_parts::calls::{Call, Reply, Ticket};
 use crate::engine::moka_parts::policy::Instant;
@@ -62,20 +62,17 @@ fn insert<'a>(arguments: &[&'a str]) -> Option<LineCall<'a>>
     let [key, value, now] = arguments else {
         return None;
     };
-    let key = small_number(key)?;
-    let now = Instant(number(now)?);
+    let (key, now) = key_at(key, now)?;
     Some(LineCall::Insert { key, value, now })
 }
 
 /// `KEY NOW`
 fn key_and_moment(arguments: &[&str]) -> Option<(u32, Instant)>
 {
-    let [key, now] = arguments else {
-        return None;
-    };
-    let key = small_number(key)?;
-    let now = Instant(number(now)?);
-    Some((key, now))
+    match arguments {
+        [key, now] => key_at(key, now),
+        _ => None,
+    }
 }
 
 /// `send TICKET`
@@ -142,11 +139,16 @@ fn key(arguments: &[&str]) -> Option<ScriptCall>
 /// `remove KEY`, of which nobody is told, or `remove KEY NOW`, which the listener is told of at that moment
 fn remove(arguments: &[&str]) -> Option<ScriptCall>
 {
-    let (key, now) = match arguments {
-        [key] => (key, None),
-        [key, now] => (key, Some(Instant(number(now)?))),
-        _ => return None,
-    };
+    match arguments {
+        [key] => remove_at(key, None),
+        [key, now] => remove_at(key, Some(Instant(number(now)?))),
+        _ => None,
+    }
+}
+
+/// A removal of the key that a word says, at a moment if the listener is told.
+fn remove_at(key: &str, now: Option<Instant>) -> Option<ScriptCall>
+{
     let key = small_number(key)?;
     Some(Call::Remove {
         key,
@@ -169,8 +171,7 @@ fn invif(arguments: &[&str]) -> Option<ScriptCall>
         return None;
     };
     let low = small_number(low)?;
-    let high = small_number(high)?;
-    let now = Instant(number(now)?);
+    let (high, now) = key_at(high, now)?;
     let predicate = KeyRange { low, high };
     Some(Call::InvalidateIf { predicate, now })
 }
@@ -178,11 +179,16 @@ fn invif(arguments: &[&str]) -> Option<ScriptCall>
 /// `run NOW BATCH`, or `run NOW BATCH LIMIT`
 fn run<'a>(arguments: &[&'a str]) -> Option<LineCall<'a>>
 {
-    let (now, batch, limit) = match arguments {
-        [now, batch] => (now, batch, None),
-        [now, batch, limit] => (now, batch, Some(number(limit)?)),
-        _ => return None,
-    };
+    match arguments {
+        [now, batch] => run_at(now, batch, None),
+        [now, batch, limit] => run_at(now, batch, Some(number(limit)?)),
+        _ => None,
+    }
+}
+
+/// A run of the moment and the batch that two words say, with that limit.
+fn run_at<'a>(now: &str, batch: &str, limit: Option<u64>) -> Option<LineCall<'a>>
+{
     let now = Instant(number(now)?);
     let batch = small_number(batch)?;
     Some(LineCall::Run { now, limit, batch })

@@ -3,7 +3,7 @@
 use crate::support::prelude::*;
 
 use crate::replay::moka_script::first_ticket::FirstTicket;
-use crate::replay::moka_script::lex::{alone, lone_number, number, number_or_none, small_number};
+use crate::replay::moka_script::lex::{alone, key_at, lone_number, number, number_or_none, small_number};
 use crate::replay::moka_script::rules::{Question, Rule};
 use crate::replay::moka_script::weigher::NumberWeigher;
 use crate::engine::moka_parts::policy::EvictionPolicy;
@@ -176,18 +176,26 @@ fn ids_given(how: &str) -> Option<Setting>
 pub fn parse_setting(name: &str, arguments: &[&str]) -> Option<Setting>
 {
     match name {
-        "first" => Some(Setting::First(FirstTicket::new(lone_number(arguments)?)?)),
-        "capacity" => Some(Setting::Capacity(lone_number(arguments)?)),
         "policy" => policy(arguments),
-        "ttl" => Some(Setting::TimeToLive(lone_number(arguments)?)),
-        "tti" => Some(Setting::TimeToIdle(lone_number(arguments)?)),
         "weigh" => alone(Setting::Weigh(NumberWeigher), arguments),
         "listener" => alone(Setting::Listener, arguments),
         "invalidator" => alone(Setting::Invalidator, arguments),
         "ids" => ids(arguments),
-        "start" => Some(Setting::Start(lone_number(arguments)?)),
         "keeper" => keeper(arguments),
         "auto" => alone(Setting::Auto, arguments),
+        _ => numbered_setting(name, lone_number(arguments)?),
+    }
+}
+
+/// The setting of that name to a number alone, if there is one.
+fn numbered_setting(name: &str, number: u64) -> Option<Setting>
+{
+    match name {
+        "first" => Some(Setting::First(FirstTicket::new(number)?)),
+        "capacity" => Some(Setting::Capacity(number)),
+        "ttl" => Some(Setting::TimeToLive(number)),
+        "tti" => Some(Setting::TimeToIdle(number)),
+        "start" => Some(Setting::Start(number)),
         _ => None,
     }
 }
@@ -199,13 +207,12 @@ fn rule(arguments: &[&str]) -> Option<Rule>
         return None;
     };
     let question = question_named(question)?;
-    let key = small_number(key)?;
-    let moment = number(moment)?;
+    let (key, moment) = key_at(key, moment)?;
     let answer = number_or_none(answer)?;
     Some(Rule {
         question,
         key,
-        moment,
+        moment: moment.0,
         answer,
     })
 }

@@ -1,5 +1,4 @@
 use Rattle.std.proofs.Common.{refl, Some, None, Ok, Err}
-use Rattle.std.proofs.lemmas.Result.{err_from_is_err_and}
 use Rattle.moka_engine.proofs.GetSteps.{IsNoted, whole-noted}
 use Rattle.moka_engine.proofs.PeekSteps.{peek_misses, peek_hits, peek_refused}
 use Rattle.moka_engine.proofs.base_cache.BaseCache.do_get_without_recording.Given.{Over}
@@ -12,12 +11,11 @@ returns-in_default g c =
     let missed = peek_misses g.P.PredicateFn.says g.X.Expiry.read g.L.Listener.tells g.K.PartialEq.eq c.self.view_is c.args.key.now at.0 c.args.now at.2 in
     (at.0, rw (← c.self.view_is) at.1, (Ok None, missed.0, refl), missed.1)
 
-pub returns-in_err-value : goal.returns-in_err-value
-returns-in_err-value g c =
+pub returns-in_default-clone : goal.returns-in_default-clone
+returns-in_default-clone g c =
     let at = c.in-Some.ensures in
     let refused = peek_refused g.P.PredicateFn.says g.X.Expiry.read g.L.Listener.tells g.K.PartialEq.eq c.self.view_is c.args.key.now at.0 c.args.now c.self.inside.inner c.self.invariant at.2 refl (record {}) in
-    let p = err_from_is_err_and c.from_residual.result c.from_residual.ensures.1 in
-    rw p.1 (at.0, rw (← c.self.view_is) at.1, (Err (record {}), refused.0, refl), refused.1)
+    (at.0, rw (← c.self.view_is) at.1, (Err (record {}), refused.0, refl), refused.1)
 
 -- the hit, as it was noted in the record
 noted : (g : Over) (c : After-touch g) → IsNoted g.X.Expiry.read c.self.inside.expiration_policy c.self.inside.inner c.touch.new.self c.in-Some.handle.number c.in-Some.found c.args.now.0 c.hit_of-hit.result.read c.hit_of-hit.result.expires c.hit_of-hit.result.is_renewed
@@ -32,4 +30,4 @@ pub returns : goal.returns
 returns g c =
     let at = c.in-Some.ensures in
     let hit = peek_hits g.P.PredicateFn.says g.X.Expiry.read g.L.Listener.tells g.K.PartialEq.eq c.self.view_is c.args.key.now at.0 c.args.now c.self.inside.inner c.self.invariant at.2 refl (noted g (goal.at.returns g c).After-touch) in
-    (at.0, rw (← c.self.view_is) at.1, (Ok (Some c.in-Some.found.value), hit.0, rw c.value.ensures at c.in_ok-value.ensures.cases), hit.1)
+    (at.0, rw (← c.self.view_is) at.1, (Ok (Some c.in-Some.found.value), hit.0, rw c.value.ensures at c.in-Ok.ensures.cases), hit.1)

@@ -15,19 +15,19 @@ queue_hit_by-requires-clause-known g c =
     let passes = g.T.KeyTest.passes c.args.sought.0.now in
     let one_key = g.met.T.KeyTest.one_key c.args.sought.0.now in
     let ran = c.run_by_housekeeper.ensures in
-    let found = number_found (record_by passes records) c.args.hit.number c.requires.found in
+    let found = number_found (record_by passes records) c.args.number c.requires.found in
     let passing = (record_by_found eq passes one_key records found.0 found.1).2 in
     let by_key = ap (option_map (λ (r : Record g.row.K.Denot g.row.V.Denot). r.number)) (sym (record_by_key eq passes one_key records found.0.key passing)) ∙ c.requires.found in (
       found.0.key,
       passing,
-      known_after eq g.met.K.Eq.laws g.P.PredicateFn.says g.X.Expiry.read c.args.self.now c.self.view_is c.self.invariant.cache ran.valid c.args.now.0 ran.step.0 ran.step.1 found.0.key c.args.hit.number by_key,
+      known_after eq g.met.K.Eq.laws g.P.PredicateFn.says g.X.Expiry.read c.args.self.now c.self.view_is c.self.invariant.cache ran.valid c.args.hit.read.0 ran.step.0 ran.step.1 found.0.key c.args.number by_key,
     )
 
 pub invariant_of-self : goal.invariant_of-self
-invariant_of-self g c = whole-queued c.self.inside.inner c.self.invariant refl (Hit c.args.hit.number c.args.hit.hash c.args.hit.renewed) c.queue_hit_by.new.self c.queue_hit_by.ensures
+invariant_of-self g c = whole-queued c.self.inside.inner c.self.invariant refl (Hit c.args.number c.args.hash c.args.hit.is_renewed) c.queue_hit_by.new.self c.queue_hit_by.ensures
 
 pub returns : goal.returns
 returns g c =
     let ran = c.run_by_housekeeper.ensures.step in
-    read_follows g.P.PredicateFn.says g.X.Expiry.read g.L.Listener.tells g.C.Clock.reads c.args.self.now c.args.now.0 c.args.clock.now c.run_by_housekeeper.new.clock c.self.view_is (ran.0, rw c.requires.due ran.1, ran.2, ran.3)
-    c.self.inside.inner refl (Hit c.args.hit.number c.args.hit.hash c.args.hit.renewed) c.queue_hit_by.new.self c.queue_hit_by.ensures
+    read_follows g.P.PredicateFn.says g.X.Expiry.read g.L.Listener.tells g.C.Clock.reads c.args.self.now c.args.hit.read.0 c.args.clock.now c.run_by_housekeeper.new.clock c.self.view_is (ran.0, rw c.requires.due ran.1, ran.2, ran.3)
+    c.self.inside.inner refl (Hit c.args.number c.args.hash c.args.hit.is_renewed) c.queue_hit_by.new.self c.queue_hit_by.ensures

@@ -1,5 +1,4 @@
 use Rattle.std.proofs.Common.{Some, None, Ok, Err, refl}
-use Rattle.std.proofs.lemmas.Result.{err_from_is_err_and}
 use Rattle.moka_parts.specs.Records.{record_of_key}
 use Rattle.moka_engine.proofs.PeekSteps.{scan_misses, scan_hits, scan_refused}
 use Rattle.moka_engine.proofs.base_cache.BaseCache.scanning_get.Goals as goal
@@ -10,15 +9,14 @@ returns-in_default g c =
     let found = rw (m.policy, m.valid_after, m.now, ← c.self.view_is) at c.in_default.ensures in
     (Ok None, scan_misses g.P.PredicateFn.says c.self.view_is c.self.inside.inner.kept (λ records. record_of_key g.K.PartialEq.eq records c.args.key.now) c.args.now.0 found, refl)
 
-pub returns-in_err-clone : goal.returns-in_err-clone
-returns-in_err-clone g c =
+pub returns-in-Err : goal.returns-in-Err
+returns-in-Err g c =
     let m = c.moments-moments.ensures in
     let found = rw (m.policy, m.valid_after, m.now, ← c.self.view_is) at c.in-Some.ensures in
-    let p = err_from_is_err_and c.from_residual.result c.from_residual.ensures.1 in
-    rw p.1 (Err (record {}), scan_refused g.P.PredicateFn.says c.self.view_is c.self.inside.inner.kept (λ records. record_of_key g.K.PartialEq.eq records c.args.key.now) c.args.now.0 c.in-Some.field-0-0 c.in-Some.found found (record {}), refl)
+    (Err (record {}), scan_refused g.P.PredicateFn.says c.self.view_is c.self.inside.inner.kept (λ records. record_of_key g.K.PartialEq.eq records c.args.key.now) c.args.now.0 c.in-Some.field-0-0 c.in-Some.found found (record {}), refl)
 
-pub returns : goal.returns
-returns g c =
+pub returns-in-Ok : goal.returns-in-Ok
+returns-in-Ok g c =
     let m = c.moments-moments.ensures in
     let found = rw (m.policy, m.valid_after, m.now, ← c.self.view_is) at c.in-Some.ensures in
-    (Ok (Some c.in-Some.found.value), scan_hits g.P.PredicateFn.says c.self.view_is c.self.inside.inner.kept (λ records. record_of_key g.K.PartialEq.eq records c.args.key.now) c.args.now.0 c.in-Some.field-0-0 c.in-Some.found found, rw c.value.ensures at c.in_ok-clone.ensures.cases)
+    (Ok (Some c.in-Some.found.value), scan_hits g.P.PredicateFn.says c.self.view_is c.self.inside.inner.kept (λ records. record_of_key g.K.PartialEq.eq records c.args.key.now) c.args.now.0 c.in-Some.field-0-0 c.in-Some.found found, rw c.value.ensures at c.in-Ok.ensures.cases)

@@ -14,7 +14,7 @@ get_with-requires g c = record {
 pub returns : goal.returns
 returns g c =
     steps_in (λ r. segment_of r.count (key_hash g.S.BuildHasher g.S.Hasher.Hasher r.hasher (g.K.Hash.hash_input c.args.key))) c.self.view_is c.segment_of-index.ensures.place (rw c.self.invariant c.segment_of-index.ensures.within)
-    _ c.index_mut.result.now c.get_with.new.self c.index_mut.ensures.value (record { step = c.get_with.ensures })
+    _ c.index_mut.result.now c.get_with.new.self c.index_mut.ensures.value c.get_with.ensures
 
 pub index_mut-requires : goal.index_mut-requires
 index_mut-requires g c = within_all c.self.inside.segments.ok.0 c.self.invariant c.segment_of-index.ensures.within

@@ -1,17 +1,15 @@
-use Rattle.std.proofs.Common.{◌≡◌, ◌∙◌, Some, None, refl, sym, ap}
-use Rattle.std.specs.Option.{option_map}
-use Rattle.moka_parts.specs.RecordParts.{joined}
-use Rattle.moka_store.specs.RecordTable.{number_at, stored_at}
-use Rattle.moka_store.specs.ColdParts.{cold_at}
-use Rattle.moka_store.proofs.ColdRows.{stored-whole}
+use Rattle.std.proofs.Common.{sym, ap, ◌∙◌, Option}
+use Rattle.std.specs.Option.{option_map, option_and_then}
+use Rattle.moka_parts.specs.declared.record_ref.Front.{Front}
+use Rattle.moka_store.specs.RecordTable.{Row}
+use Rattle.moka_store.proofs.ColdRows.{key-whole}
 use Rattle.moka_store.proofs.table.RecordTable.key.Goals as goal
 
+abbrev key_of : {K V : Type 0} → Option (Row (Front K V)) → Option K
+key_of o = option_map (λ f. f.hot.key) (option_and_then (λ row. row.stored) o)
+
+pub returns-in_err-at : goal.returns-in_err-at
+returns-in_err-at g c = rw (c.from_residual.ensures, ← c.self.view_is) (ap key_of c.in_err-at.ensures ∙ sym (key-whole _ _ _))
+
 pub returns : goal.returns
-returns g c =
-    let rows = c.self.inside.rows.rows in
-    let colds = c.self.inside.cold.items in
-    let keys : option_map (λ f. f.hot.key) (stored_at rows c.args.place) ≡ option_map (λ r. r.key) (option_map (λ f. joined (number_at rows c.args.place) f (cold_at colds c.args.place)) (stored_at rows c.args.place)) = elim (stored_at rows c.args.place) as (λ o. option_map (λ f. f.hot.key) o ≡ option_map (λ r. r.key) (option_map (λ f. joined (number_at rows c.args.place) f (cold_at colds c.args.place)) o)) [
-      | None ↦ refl
-      | Some f ↦ refl
-    ] in
-    rw (← c.self.view_is) (c.key.ensures ∙ keys ∙ ap (option_map (λ r. r.key)) (sym (stored-whole rows colds c.args.place)))
+returns g c = rw (← c.self.view_is) (c.key.ensures ∙ ap key_of c.in_ok-at.ensures ∙ sym (key-whole _ _ _))

@@ -17,3 +17,7 @@ returns-clause-succeeds g c = λ fits.
 
 pub returns-clause-room : goal.returns-clause-room
 returns-clause-room g c = on_ok_weaker c.reserve.result (λ room. omega (arith, room, c.self.invariant.total, c.len.ensures)) c.reserve.ensures.ok
+
+pub returns-clause-enough : goal.returns-clause-enough
+returns-clause-enough g c = λ fits.
+    absurd (omega (arith, rw (← c.self.view_is) at fits, c.if-capacity-self.false, c.capacity.ensures))

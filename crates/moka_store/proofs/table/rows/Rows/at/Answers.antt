@@ -1,5 +1,5 @@
 use Rattle.moka_store.proofs.RowCalls.{row_lent}
-use Rattle.moka_store.proofs.table.rows.Rows.slot.Goals as goal
+use Rattle.moka_store.proofs.table.rows.Rows.at.Goals as goal
 
 pub returns : goal.returns
 returns g c =

@@ -1,6 +1,6 @@
 use Rattle.std.proofs.Common.{◌≡◌, ℕ, ◌≤◌, None}
 use Rattle.std.specs.FinMap as finite
-use Rattle.moka_tests.proofs.index.compare.ten_thousand_steps_agree_with_a_map.Given as goal
+use Rattle.moka_tests.proofs.index.compare.check_steps.Given as goal
 
 abbrev pub invariant-loop-place : goal.invariant-loop-place
 invariant-loop-place g l = (p : ℕ) → l.place ≤ p → finite.get l.index.entries p ≡ None
