@@ -32,6 +32,8 @@ GHOST_USE = re.compile(r"ghost\s+use\s[^;]*;")
 GHOST_ITEM = re.compile(r"ghost\s+\w+\s*[:=]\s*(?=\{)")
 GHOST_MORE = re.compile(r"\s*(?:by|=)\s*(?=\{)")
 GHOST_END = re.compile(r"\s*[;,]")
+# A ghost member that std requires of an impl: without it, Rattle's compiler makes no code.
+REQUIRED = re.compile(r"ghost\s+build_hasher\b")
 IMPL_DROP = re.compile(
     r"^impl\b(?:(?!^\}|^impl\b).)*?\bDrop for [^{]*\{\n"
     r"    fn drop\(self\)\s*\{\s*let \w+ \{([^}]*)\} = self;\s*\}\n\}\n",
@@ -75,14 +77,15 @@ def ghost_end(text, at):
     return m.end(), "a ghost member or field"
 
 
-def without_ghosts(text, left):
+def without_ghosts(text, left, keeps_required):
     """Deletes clauses and ghost items, but for those words in strings and comments. `left` says what stays of each."""
     out, at = [], 0
     while at < len(text):
         if text.startswith("/*", at):
             raise Refused("a block comment")
         kind, m = next((kind, m) for kind, form in FORMS if (m := form.match(text, at)))
-        if kind == "word" and m.group() in ("requires", "ensures", "ghost"):
+        is_gone = kind == "word" and m.group() in ("requires", "ensures", "ghost")
+        if is_gone and not (keeps_required and REQUIRED.match(text, at)):
             end, rule = ghost_end(text, at)
             out.append(left(text[at:end]))
             at = end
@@ -100,17 +103,17 @@ def change(rule, form, to, text, flags=0):
     return text
 
 
-def deleted(text, keeps_lines=False):
-    """The source without its contracts, for Rattle's own compiler; where lines are kept, each stays where it was."""
+def deleted(text, for_rattle=False):
+    """The source without its contracts. For Rattle's own compiler each line stays where it was, and what std requires."""
 
     def left(gone):
-        return "\n" * gone.count("\n") if keeps_lines else ""
+        return "\n" * gone.count("\n") if for_rattle else ""
 
     def left_of(m):
         return left(m.group())
 
-    text = without_ghosts(text, left)
-    text = change("impl Model", r"^impl\b(?:(?!^\}|^impl\b|\{).)*?\bModel for [^{]*\{\s*\}\n", left_of, text, re.S)
+    text = without_ghosts(text, left, for_rattle)
+    text = change("impl Model", r"^impl\b(?:(?!^\}|^impl\b|\{).)*?\bModel\s+for [^{]*\{\s*\}\n", left_of, text, re.S)
     text = change("use Model", r"^use std::marker::Model;\n", left_of, text)
     return change("use Model", r"^use std::marker::\{Model, PhantomData\};", "use std::marker::PhantomData;", text)
 

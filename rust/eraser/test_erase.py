@@ -31,6 +31,7 @@ class Deletes(unittest.TestCase):
         text = "use std::marker::{Model, PhantomData};\n"
         text += "impl<K> Model for A<K> {\n    ghost Value = { K };\n}\nstruct B;\n"
         self.assertEqual(made(text), "use std::marker::PhantomData;\nstruct B;\n")
+        self.assertEqual(made("impl<K> Model\n    for A<K>\n{\n    ghost Value = { K };\n}\nstruct B;\n"), "struct B;\n")
 
     def test_tactics(self):
         self.assertEqual(made("#![tactic(auto)]\nmod a;\n"), "mod a;\n")
@@ -51,7 +52,12 @@ class Deletes(unittest.TestCase):
 
     def test_keeps_lines(self):
         text = "ghost use A.{\n    a};\nfn f()\n    ensures { a\n    }\n{}\n"
-        self.assertEqual(deleted(text, keeps_lines=True).count("\n"), text.count("\n"))
+        self.assertEqual(deleted(text, for_rattle=True).count("\n"), text.count("\n"))
+
+    def test_members_that_std_requires(self):
+        text = "impl BuildHasher for A {\n    ghost build_hasher = { λ a. a };\n}\n"
+        self.assertEqual(deleted(text, for_rattle=True), text)
+        self.assertEqual(deleted(text).count("ghost"), 0)
 
 
 class Renames(unittest.TestCase):

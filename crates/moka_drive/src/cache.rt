@@ -56,24 +56,17 @@ pub struct Cache<
     K: Eq + Hash,
     V,
     X: Expiry<K, V> = NoExpiry,
-    L: Listener<K, V> = NoListener,
-    P: PredicateFn<K, V> = NoPredicate,
-    W: Weigher<K, V> = NoWeigher,
+    L = NoListener,
+    P = NoPredicate,
+    W = NoWeigher,
     S: BuildHasher = DefaultHasher,
 > {
     engine: BaseCache<K, V, S, X, L, P, W>,
     stats: Stats,
 }
 
-impl<
-    K: Eq + Hash,
-    V,
-    X: Expiry<K, V>,
-    L: Listener<K, V>,
-    P: PredicateFn<K, V>,
-    W: Weigher<K, V>,
-    S: BuildHasher,
-> Model for Cache<K, V, X, L, P, W, S> {
+impl<K: Eq + Hash, V, X: Expiry<K, V>, L, P, W, S: BuildHasher> Model
+    for Cache<K, V, X, L, P, W, S> {
     ghost use Rattle.std.specs.Prelude.{◌≡◌};
     ghost use Rattle.std.specs.Coded.{codes, coded_ℕ};
     ghost use Rattle.std.specs.FinMap as finite;
@@ -93,9 +86,9 @@ impl<
     K: Eq + Hash + Drop,
     V: Drop,
     X: Expiry<K, V> + Drop,
-    L: Listener<K, V> + Drop,
-    P: PredicateFn<K, V> + Drop,
-    W: Weigher<K, V> + Drop,
+    L: Drop,
+    P: Drop,
+    W: Drop,
     S: BuildHasher + Drop,
 > Drop for Cache<K, V, X, L, P, W, S> {
     fn drop(self) {

@@ -24,16 +24,7 @@ use std::hash::{BuildHasher, Hash};
 /// A key of a cache, of which one entry call is to be made. Nothing is hashed or looked up before. moka:
 /// `OwnedKeyEntrySelector`.
 #[derive(Drop)]
-pub struct OwnedKeyEntrySelector<
-    'a,
-    K: Eq + Hash,
-    V,
-    X: Expiry<K, V>,
-    L: Listener<K, V>,
-    P: PredicateFn<K, V>,
-    W: Weigher<K, V>,
-    S: BuildHasher,
-> {
+pub struct OwnedKeyEntrySelector<'a, K: Eq + Hash, V, X: Expiry<K, V>, L, P, W, S: BuildHasher> {
     cache: &'a mut Cache<K, V, X, L, P, W, S>,
     key: K,
 }

@@ -2,9 +2,11 @@
 #![tactic(auto)]
 
 #[cfg(test)]
+mod answers;
+#[cfg(test)]
 mod cache;
 #[cfg(test)]
-mod entry;
+mod config;
 #[cfg(test)]
 mod makers;
 #[cfg(test)]
@@ -15,3 +17,5 @@ mod saves;
 mod segments;
 #[cfg(test)]
 mod timed;
+#[cfg(test)]
+mod workload;

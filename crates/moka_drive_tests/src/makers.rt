@@ -20,11 +20,6 @@ pub fn twenty() -> u64 {
     20
 }
 
-/// Might have given nothing.
-pub fn some_twenty() -> Option<u64> {
-    Some(20)
-}
-
 /// One more than what is there.
 pub fn one_more(seen: Option<u64>) -> u64 {
     seen.unwrap_or(0).saturating_add(1)

@@ -55,15 +55,7 @@ pub use snapshot::{Snapshot, SnapshotEntry};
 const SEGMENTS: usize = 1;
 
 /// A cache. moka: `sync::base_cache::BaseCache`.
-pub struct BaseCache<
-    K: Eq + Hash,
-    V,
-    S: BuildHasher,
-    X: Expiry<K, V>,
-    L: Listener<K, V>,
-    P: PredicateFn<K, V>,
-    W: Weigher<K, V>,
-> {
+pub struct BaseCache<K: Eq + Hash, V, S: BuildHasher, X: Expiry<K, V>, L, P, W> {
     alloc: Global,
     name: Option<String>,
     inner: Inner<K, V, S>,
@@ -90,9 +82,9 @@ impl<
     V: Drop,
     S: BuildHasher + Drop,
     X: Expiry<K, V> + Drop,
-    L: Listener<K, V> + Drop,
-    P: PredicateFn<K, V> + Drop,
-    W: Weigher<K, V> + Drop,
+    L: Drop,
+    P: Drop,
+    W: Drop,
 > Drop for BaseCache<K, V, S, X, L, P, W> {
     fn drop(self) {
         let BaseCache {
@@ -115,15 +107,8 @@ impl<
     }
 }
 
-impl<
-    K: Eq + Hash,
-    V,
-    S: BuildHasher,
-    X: Expiry<K, V>,
-    L: Listener<K, V>,
-    P: PredicateFn<K, V>,
-    W: Weigher<K, V>,
-> Model for BaseCache<K, V, S, X, L, P, W> {
+impl<K: Eq + Hash, V, S: BuildHasher, X: Expiry<K, V>, L, P, W> Model
+    for BaseCache<K, V, S, X, L, P, W> {
     ghost use Rattle.std.specs.Prelude.{option_map};
     ghost use Rattle.std.specs.Coded.{codes, coded_ℕ};
     ghost use Rattle.std.specs.FinMap as finite;

@@ -13,6 +13,7 @@
 
 pub mod base_cache;
 pub mod config;
+pub mod structures;
 
 pub use base_cache::{
     BaseCache, RestoreError, RestoreRefused, Restored, Sight, Snapshot, SnapshotEntry,
@@ -32,9 +33,9 @@ pub use moka_parts::housekeeper::{
 };
 pub use moka_parts::invalidator::{IdSource, PredicateId};
 pub use moka_parts::key_test::KeyTest;
+pub use moka_parts::laws;
 pub use moka_parts::notification::{Listener, NoListener, RemovalCause};
 pub use moka_parts::policy::{
     EvictionPolicy, ExpirationPolicy, ExpireAfter, ExpireAfterCreate, ExpireAfterRead,
     ExpireAfterUpdate, Expiry, Instant, NoExpiry, Policy,
 };
-pub use moka_parts::{laws, structures};

@@ -2,7 +2,7 @@
 ghost use Rattle.std.specs.Prelude.{◌≡◌, ◌<◌, false, length, IfErr};
 ghost use Rattle.moka_parts.specs.Calls.{ContainsStep};
 ghost use Rattle.moka_parts.specs.Hashing.{key_hash};
-ghost use Rattle.moka_drive.specs.Synchronous.{meaning_of, removed, invalidated};
+ghost use Rattle.moka_drive.specs.Synchronous.{Synchronous, meaning_of, removed, invalidated};
 ghost use Rattle.moka_segments.specs.Routing.{segment_of};
 ghost use Rattle.moka_segments.specs.Segmented.{Holds, IsAt, Steps as StepsIn};
 ghost use Rattle.moka_segments.specs.Steps.{Inserts, Gets, Removes, GetsWith, GetsWithIfMade, GetsWithIfNoError};
@@ -24,24 +24,17 @@ pub struct SegmentedCache<
     K: Eq + Hash,
     V,
     X: Expiry<K, V> = NoExpiry,
-    L: Listener<K, V> = NoListener,
-    P: PredicateFn<K, V> = NoPredicate,
-    W: Weigher<K, V> = NoWeigher,
+    L = NoListener,
+    P = NoPredicate,
+    W = NoWeigher,
     S: BuildHasher = DefaultHasher,
 > {
     pub(crate) router: Router<S>,
     pub(crate) segments: Vec<Cache<K, V, X, L, P, W, S>>,
 }
 
-impl<
-    K: Eq + Hash,
-    V,
-    X: Expiry<K, V>,
-    L: Listener<K, V>,
-    P: PredicateFn<K, V>,
-    W: Weigher<K, V>,
-    S: BuildHasher,
-> Model for SegmentedCache<K, V, X, L, P, W, S> {
+impl<K: Eq + Hash, V, X: Expiry<K, V>, L, P, W, S: BuildHasher> Model
+    for SegmentedCache<K, V, X, L, P, W, S> {
     ghost use Rattle.std.specs.Prelude.{◌≡◌, length};
     ghost use Rattle.std.specs.Coded.{codes, coded_ℕ};
     ghost use Rattle.std.specs.FinMap as finite;
@@ -61,9 +54,9 @@ impl<
     K: Eq + Hash + Drop,
     V: Drop,
     X: Expiry<K, V> + Drop,
-    L: Listener<K, V> + Drop,
-    P: PredicateFn<K, V> + Drop,
-    W: Weigher<K, V> + Drop,
+    L: Drop,
+    P: Drop,
+    W: Drop,
     S: BuildHasher + Drop,
 > Drop for SegmentedCache<K, V, X, L, P, W, S> {
     fn drop(self) {
@@ -262,7 +255,7 @@ impl<
         K: Clone + Drop,
         V: Clone + Drop,
         P: Drop,
-        requires callable { (s : _)
+        requires callable { (s : Synchronous K V S X L P W)
             → IsAt self.old.segments (segment_of self.old.routing.count
             (key_hash S.BuildHasher S.Hasher.Hasher self.old.routing.hasher (K.hash_input key))) s
             → ContainsStep P.says K.eq s.engine.state key now.0 false → F.pre init }
@@ -292,7 +285,7 @@ impl<
         K: Clone + Drop,
         V: Clone + Drop,
         P: Drop,
-        requires callable { (s : _)
+        requires callable { (s : Synchronous K V S X L P W)
             → IsAt self.old.segments (segment_of self.old.routing.count
             (key_hash S.BuildHasher S.Hasher.Hasher self.old.routing.hasher (K.hash_input key))) s
             → ContainsStep P.says K.eq s.engine.state key now.0 false → F.pre init }
@@ -322,7 +315,7 @@ impl<
         K: Clone + Drop,
         V: Clone + Drop,
         P: Drop,
-        requires callable { (s : _)
+        requires callable { (s : Synchronous K V S X L P W)
             → IsAt self.old.segments (segment_of self.old.routing.count
             (key_hash S.BuildHasher S.Hasher.Hasher self.old.routing.hasher (K.hash_input key))) s
             → ContainsStep P.says K.eq s.engine.state key now.0 false → F.pre init }

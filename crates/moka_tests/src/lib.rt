@@ -2,17 +2,15 @@
 #![tactic(auto)]
 
 #[cfg(test)]
-mod engine;
+mod cases;
 #[cfg(test)]
-mod equal;
+mod engine;
 #[cfg(test)]
 mod index;
 #[cfg(test)]
 mod maintenance;
 #[cfg(test)]
 mod parts;
-#[cfg(test)]
-mod printed;
 #[cfg(test)]
 mod script;
 #[cfg(test)]

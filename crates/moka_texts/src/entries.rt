@@ -1,314 +1,257 @@
 //! Calls that hand out the value of a key or put one, and calls that compute one.
-use crate::notes::Notes;
-use crate::report::{Round, Told, looked_up};
-use crate::synchronous::{Cached, Removal, is_put_back, is_taken_out, run, told_by};
-use moka_drive::{CacheEntry, CompResult, ComputeRefused, GetWithRefused, Op, Stats};
-use moka_engine::{FixedClock, InsertRefused, Instant};
+use crate::calls::{Ask, Call};
+use crate::notes::{Notes, Words};
+use crate::report::{Refused, Round, looked_up};
+use crate::synchronous::{Cached, contains, is_made, is_taken_out, run};
+use moka_drive::{CacheEntry, CompResult, ComputeRefused, GetWithRefused, Op};
 
-/// A call that hands out the value of a key, and puts one if the key is not there.
-#[derive(Clone, Copy)]
-enum Call {
-    GetWith,
-    OptionallyGetWith,
-    TryGetWith,
-    OrInsert,
-    OrInsertWith,
-    OrOptionallyInsertWith,
-    OrTryInsertWith,
-    AndUpsertWith,
+/// The value that was handed out, if there is one.
+type Found = Result<Option<String>, GetWithRefused<String, String>>;
+
+/// The value of a key, made if the key is not there.
+fn get_made(cache: &mut Cached, call: Call, words: Words) -> Found {
+    let (key, made) = (words.text(call.key), words.text(call.value));
+    let (now, clock) = (words.now, &mut words.clock());
+    let init = || made;
+    match call.ask {
+        Ask::GetWith => cache.get_with(key, init, now, clock).map(Some),
+        _ => call.value_of(cache.entry(key).or_insert_with(init, now, clock).map(Some)),
+    }
 }
 
-/// All these calls, with their names, and whether the value that is put is counted as a load.
-const CALLS: [(Call, &str, bool); 8] = [
-    (Call::GetWith, "Cache::get_with", true),
-    (Call::OptionallyGetWith, "Cache::optionally_get_with", true),
-    (Call::TryGetWith, "Cache::try_get_with", true),
-    (Call::OrInsert, "OwnedKeyEntrySelector::or_insert", false),
+/// The value of a key, or one that may be made if the key is not there.
+fn get_offered(cache: &mut Cached, call: Call, words: Words) -> Found {
+    let (key, offered) = (words.text(call.key), offer(call, words));
+    let (now, clock) = (words.now, &mut words.clock());
+    let init = || offered;
+    match call.ask {
+        Ask::OrOptionallyInsertWith => {
+            call.value_of(cache.entry(key).or_optionally_insert_with(init, now, clock))
+        }
+        _ => cache.optionally_get_with(key, init, now, clock),
+    }
+}
+
+/// The value of a key, or one that is tried to be made if the key is not there.
+fn get_tried(cache: &mut Cached, call: Call, words: Words) -> Found {
+    let (key, tried) = (words.text(call.key), offer(call, words).ok_or(7_u64));
+    let (now, clock) = (words.now, &mut words.clock());
+    let init = || tried;
+    match call.ask {
+        Ask::OrTryInsertWith => {
+            call.value_of(
+                cache
+                    .entry(key)
+                    .or_try_insert_with(init, now, clock)
+                    .map(Result::ok),
+            )
+        }
+        _ => cache.try_get_with(key, init, now, clock).map(Result::ok),
+    }
+}
+
+/// What a maker gives, unless it declines or fails.
+fn offer(call: Call, words: Words) -> Option<String> {
+    match call.ask {
+        Ask::Decline | Ask::Fail => None,
+        _ => Some(words.text(call.value)),
+    }
+}
+
+/// The value of a key, or the one that is put if the key is not there.
+fn get_or_insert(cache: &mut Cached, call: Call, words: Words) -> Found {
+    let (key, value) = (words.text(call.key), words.text(call.value));
+    match cache
+        .entry(key)
+        .or_insert(value, words.now, &mut words.clock())
+    {
+        Ok(entry) => call.value_of(Ok(Some(entry))),
+        Err(refused) if call.is_there => Err(GetWithRefused::Lookup(refused.key)),
+        Err(refused) => Err(GetWithRefused::Insert(refused)),
+    }
+}
+
+/// The value that is put, whatever is there.
+fn upsert(cache: &mut Cached, call: Call, words: Words) -> Found {
+    let (key, value) = (words.text(call.key), words.text(call.value));
+    let upserted = cache
+        .entry(key)
+        .and_upsert_with(|_| value, words.now, &mut words.clock());
+    call.value_of(upserted.map(Some))
+}
+
+impl Call {
+    /// The value of an entry that is as fresh as it should be.
+    fn value_of(
+        self,
+        found: Result<Option<CacheEntry<String, String>>, GetWithRefused<String, String>>,
+    ) -> Found {
+        match found {
+            Ok(Some(entry)) => {
+                let is_upsert = matches!(self.ask, Ask::AndUpsertWith);
+                let is_right = entry.is_fresh == (is_upsert || !self.is_there)
+                    && entry.is_old_value_replaced == (is_upsert && self.is_there);
+                Ok(value_if(is_right, entry))
+            }
+            Ok(None) => Ok(None),
+            Err(refused) => Err(refused),
+        }
+    }
+
+    /// What is computed: the key is left, its value is put, or it is taken out.
+    fn computes(self, words: Words) -> Op<String> {
+        match self.ask {
+            Ask::Put => Op::Put(words.text(self.value)),
+            Ask::TakeOut => Op::Remove,
+            _ => Op::Nop,
+        }
+    }
+
+    /// The value that is left, was put or was taken out, if that is what should be done.
+    fn computed(self, done: CompResult<String, String>) -> Option<String> {
+        let (is_put, is_taken) = (
+            matches!(self.ask, Ask::Put),
+            matches!(self.ask, Ask::TakeOut),
+        );
+        match done {
+            CompResult::Inserted(entry) => value_if(is_put && !self.is_there, entry),
+            CompResult::ReplacedWith(entry) => value_if(is_put && self.is_there, entry),
+            CompResult::Removed(entry) => value_if(is_taken, entry),
+            CompResult::Unchanged(entry) => value_if(!is_put && !is_taken, entry),
+            CompResult::StillNone(_) => None,
+        }
+    }
+
+    /// A computation that was refused.
+    fn not_computed(self, refused: ComputeRefused<String, String>, words: Words) -> Refused {
+        match refused {
+            ComputeRefused::Lookup(key) => {
+                Refused::before_all(" at the look-up", words.is(self.key, &key))
+            }
+            ComputeRefused::Insert(refused) => self.not_inserted(&refused, words),
+            ComputeRefused::NotTold(key, refused) => {
+                let is_back = words.is(self.key, &key) && words.is(self.value, &refused.value);
+                Refused::before_notice(" at the removal", looked_up(true), is_back)
+            }
+        }
+    }
+}
+
+fn value_if(is_right: bool, entry: CacheEntry<String, String>) -> Option<String> {
+    if is_right { Some(entry.value) } else { None }
+}
+
+/// Makes a call that hands out a value.
+pub fn hand_out(cache: &mut Cached, call: Call, words: Words) -> Result<Option<String>, Refused> {
+    let found = match call.ask {
+        Ask::GetWith | Ask::OrInsertWith => get_made(cache, call, words),
+        Ask::TryGetWith | Ask::OrTryInsertWith | Ask::Fail => get_tried(cache, call, words),
+        Ask::OrInsert => get_or_insert(cache, call, words),
+        Ask::AndUpsertWith => upsert(cache, call, words),
+        _ => get_offered(cache, call, words),
+    };
+    match found {
+        Ok(found) => Ok(found),
+        Err(refused) => Err(call.not_got(refused, words)),
+    }
+}
+
+/// Makes a call that computes what is to be done.
+pub fn compute(cache: &mut Cached, call: Call, words: Words) -> Result<Option<String>, Refused> {
+    let (key, op) = (words.text(call.key), call.computes(words));
+    let choose = |_: Option<&String>| op;
+    match cache.compute_with(key, choose, words.now, &mut words.clock()) {
+        Ok(result) => Ok(call.computed(result)),
+        Err(refused) => Err(call.not_computed(refused, words)),
+    }
+}
+
+/// The calls that hand out the value of a key, and put one if the key is not there, or in any case.
+const CALLS: [(Ask, &str); 8] = [
+    (Ask::GetWith, "Cache::get_with"),
+    (Ask::OptionallyGetWith, "Cache::optionally_get_with"),
+    (Ask::TryGetWith, "Cache::try_get_with"),
+    (Ask::OrInsert, "OwnedKeyEntrySelector::or_insert"),
+    (Ask::OrInsertWith, "OwnedKeyEntrySelector::or_insert_with"),
     (
-        Call::OrInsertWith,
-        "OwnedKeyEntrySelector::or_insert_with",
-        true,
-    ),
-    (
-        Call::OrOptionallyInsertWith,
+        Ask::OrOptionallyInsertWith,
         "OwnedKeyEntrySelector::or_optionally_insert_with",
-        true,
     ),
     (
-        Call::OrTryInsertWith,
+        Ask::OrTryInsertWith,
         "OwnedKeyEntrySelector::or_try_insert_with",
-        true,
     ),
-    (
-        Call::AndUpsertWith,
-        "OwnedKeyEntrySelector::and_upsert_with",
-        false,
-    ),
+    (Ask::AndUpsertWith, "OwnedKeyEntrySelector::and_upsert_with"),
 ];
 
-/// A call with a key of this number, whether that is there, and which value is to be handed out.
-#[derive(Drop)]
-struct Asked {
-    call: Call,
-    number: u64,
-    is_there: bool,
-    expected: String,
-}
-
-type Refused = GetWithRefused<String, String>;
-
-impl Asked {
-    /// Whether the call hands out the value that is expected.
-    fn is_right(&self, cache: &mut Cached, key: String, made: String) -> Result<bool, Refused> {
-        let (now, clock) = (Instant(self.number), &mut FixedClock(Instant(self.number)));
-        match self.call {
-            Call::GetWith => Ok(self.is(Some(cache.get_with(key, || made, now, clock)?))),
-            Call::OptionallyGetWith => {
-                Ok(self.is(cache.optionally_get_with(key, || Some(made), now, clock)?))
-            }
-            Call::TryGetWith => {
-                let found = cache.try_get_with(key, || Ok::<String, u64>(made), now, clock)?;
-                Ok(self.is(found.ok()))
-            }
-            _ => self.is_entry_right(cache, key, made),
-        }
-    }
-
-    /// Whether the entry call hands out the entry that is expected.
-    fn is_entry_right(
-        &self,
-        cache: &mut Cached,
-        key: String,
-        made: String,
-    ) -> Result<bool, Refused> {
-        let (now, clock) = (Instant(self.number), &mut FixedClock(Instant(self.number)));
-        let selected = cache.entry(key);
-        match self.call {
-            Call::OrInsert => match selected.or_insert(made, now, clock) {
-                Ok(entry) => Ok(self.is_entry(Some(entry))),
-                Err(refused) => Err(self.refusal_of(refused)),
-            },
-            Call::OrOptionallyInsertWith => {
-                Ok(self.is_entry(selected.or_optionally_insert_with(|| Some(made), now, clock)?))
-            }
-            Call::OrTryInsertWith => {
-                let init = || Ok::<String, u64>(made);
-                let found = selected.or_try_insert_with(init, now, clock)?;
-                Ok(self.is_entry(found.ok()))
-            }
-            Call::AndUpsertWith => {
-                let entry = selected.and_upsert_with(|_| made, now, clock)?;
-                Ok(
-                    entry.is_fresh
-                        && entry.is_old_value_replaced == self.is_there
-                        && self.is(Some(entry.value)),
-                )
-            }
-            _ => Ok(self.is_entry(Some(selected.or_insert_with(|| made, now, clock)?))),
-        }
-    }
-
-    /// Where `or_insert` was refused: at the look-up if the key is there.
-    fn refusal_of(&self, refused: InsertRefused<String, String>) -> Refused {
-        if self.is_there {
-            GetWithRefused::Lookup(refused.key)
-        } else {
-            GetWithRefused::Insert(refused)
-        }
-    }
-
-    fn is(&self, found: Option<String>) -> bool {
-        match found {
-            Some(value) => value == self.expected,
-            None => false,
-        }
-    }
-
-    /// Whether the entry has the value that is expected, and says whether it was there.
-    fn is_entry(&self, found: Option<CacheEntry<String, String>>) -> bool {
-        match found {
-            Some(entry) => {
-                entry.is_fresh != self.is_there
-                    && !entry.is_old_value_replaced
-                    && entry.value == self.expected
-            }
-            None => false,
-        }
-    }
-}
-
-/// Whether a call hands out what it should. One that is refused at the look-up is made again with the key that came
-/// back, and an insert with key and value. The value that it is to put begins with this word.
+/// Whether a call answers as it should for a key that is not there and for one that is, which is then taken out.
 fn is_asked(
     notes: &mut Notes,
     cache: &mut Cached,
-    (call, name, is_load): (Call, &'static str, bool),
-    word: &str,
-    number: u64,
+    (ask, name): (Ask, &'static str),
+    words: Words,
 ) -> bool {
-    let key = notes.text("entry", number);
-    let is_there = cache.contains_key(&key, Instant(number));
-    let is_kept = is_there && !matches!(call, Call::AndUpsertWith);
-    let expected = notes.text(if is_kept { "made" } else { word }, number);
-    let made = notes.text(word, number);
-    let asked = Asked {
-        call,
-        number,
-        is_there,
-        expected,
+    let left = match ask {
+        Ask::AndUpsertWith => "other",
+        _ => "made",
     };
-    let before = told_by(cache);
-    match asked.is_right(cache, key, made) {
-        Ok(is_right) => is_right,
-        Err(GetWithRefused::Lookup(key)) => {
-            notes.refused(name, " at the look-up", &before, &told_by(cache));
-            let made = notes.text(word, number);
-            matches!(asked.is_right(cache, key, made), Ok(true))
-        }
-        Err(GetWithRefused::Insert(refused)) => {
-            let loads = u64::from(is_load);
-            let counted = Stats {
-                loads,
-                ..looked_up(is_there)
-            };
-            notes.refused(
-                name,
-                " at the insert",
-                &before.after(counted),
-                &told_by(cache),
-            );
-            refused.value == asked.expected && is_put_back(cache, refused, Instant(number))
-        }
-    }
+    let make = Call::new(ask, name, ("entry", "made"), false).answering("made");
+    let find = Call::new(ask, name, ("entry", "other"), true).answering(left);
+    let removal = Call::new(Ask::Invalidate, "Cache::invalidate", ("entry", left), false);
+    let is_put = is_made(notes, cache, make, words);
+    let is_found = is_made(notes, cache, find, words);
+    is_taken_out(notes, cache, removal, words) && is_put && is_found
 }
 
-/// Whether all calls with texts of this number answer as they should, for a key that is not there and for one that is.
-fn are_asked(notes: &mut Notes, cache: &mut Cached, number: u64) -> bool {
-    let removal = (Removal::Invalidate, "Cache::invalidate");
+/// Whether nothing is answered and nothing inserted where makers decline and fail.
+fn is_nothing_made(notes: &mut Notes, cache: &mut Cached, words: Words) -> bool {
+    let texts = ("nothing", "nothing");
+    let decline = Call::new(Ask::Decline, "Cache::optionally_get_with", texts, false);
+    let fail = Call::new(Ask::Fail, "Cache::try_get_with", texts, false);
+    let is_declined = is_made(notes, cache, decline, words);
+    let is_failed = is_made(notes, cache, fail, words);
+    !contains(cache, decline, words) && is_declined && is_failed
+}
+
+/// What is computed in turn of a text that is not there at first: whether it is there then, and answered.
+const COMPUTED: [(Ask, bool, Option<&str>); 6] = [
+    (Ask::Leave, false, None),
+    (Ask::Put, false, Some("value")),
+    (Ask::Put, true, Some("value")),
+    (Ask::Leave, true, Some("value")),
+    (Ask::TakeOut, true, Some("value")),
+    (Ask::TakeOut, false, None),
+];
+
+/// Whether all that is computed is done.
+fn are_computed(notes: &mut Notes, cache: &mut Cached, words: Words) -> bool {
     let mut is_right = true;
-    for call in CALLS {
-        let is_made = is_asked(notes, cache, call, "made", number);
-        let is_found = is_asked(notes, cache, call, "other", number);
-        let is_taken_out = is_taken_out(notes, cache, removal, "entry", number);
-        is_right = is_right && is_made && is_found && is_taken_out;
+    for (ask, is_there, expected) in COMPUTED {
+        let mut call = Call::new(ask, "Cache::compute_with", ("computed", "value"), is_there);
+        call.expected = expected;
+        is_right = is_made(notes, cache, call, words) && is_right;
     }
     is_right
 }
 
-/// Whether nothing is answered and nothing inserted where makers decline and fail.
-fn is_nothing_made(notes: &Notes, cache: &mut Cached, number: u64) -> bool {
-    let (now, clock) = (Instant(number), &mut FixedClock(Instant(number)));
-    let (first, second) = (notes.text("nothing", number), notes.text("nothing", number));
-    let asked = notes.text("nothing", number);
-    let declined = cache.optionally_get_with(first, || None, now, clock);
-    let failed = cache.try_get_with(second, || Err::<String, u64>(7), now, clock);
-    matches!(declined, Ok(None)) && matches!(failed, Ok(Err(7))) && !cache.contains_key(&asked, now)
-}
-
-/// What is computed of a text.
-#[derive(Clone, Copy)]
-enum Choice {
-    Leave,
-    Put,
-    Remove,
-}
-
-/// Each is computed in turn, of a text that is not there at first.
-const CHOICES: [(Choice, bool); 6] = [
-    (Choice::Leave, false),
-    (Choice::Put, false),
-    (Choice::Put, true),
-    (Choice::Leave, true),
-    (Choice::Remove, true),
-    (Choice::Remove, false),
-];
-
-/// Whether what is chosen of a text that is there or not is done.
-fn is_done(
-    cache: &mut Cached,
-    (choice, is_there): (Choice, bool),
-    key: String,
-    value: String,
-    now: Instant,
-) -> Result<bool, ComputeRefused<String, String>> {
-    let choose = |_: Option<&String>| match choice {
-        Choice::Leave => Op::Nop,
-        Choice::Put => Op::Put(value),
-        Choice::Remove => Op::Remove,
-    };
-    match cache.compute_with(key, choose, now, &mut FixedClock(now))? {
-        CompResult::Inserted(_) => Ok(matches!(choice, Choice::Put) && !is_there),
-        CompResult::ReplacedWith(_) => Ok(matches!(choice, Choice::Put) && is_there),
-        CompResult::Removed(_) => Ok(matches!(choice, Choice::Remove) && is_there),
-        CompResult::StillNone(_) => Ok(!matches!(choice, Choice::Put) && !is_there),
-        CompResult::Unchanged(_) => Ok(matches!(choice, Choice::Leave) && is_there),
+/// Whether all calls that hand out a value answer as they should.
+fn are_asked(notes: &mut Notes, cache: &mut Cached, words: Words) -> bool {
+    let mut is_right = true;
+    for asked in CALLS {
+        is_right = is_asked(notes, cache, asked, words) && is_right;
     }
-}
-
-/// At which step a call was refused, and what the cache is to tell then.
-fn expected_after(
-    refused: &ComputeRefused<String, String>,
-    before: Told,
-    is_there: bool,
-) -> (&'static str, Told) {
-    let after = before.after(looked_up(is_there));
-    match refused {
-        ComputeRefused::Lookup(_) => (" at the look-up", before),
-        ComputeRefused::Insert(_) => (" at the insert", after),
-        ComputeRefused::NotTold(_, _) => (" at the removal", after.after_writes(1)),
-    }
-}
-
-/// Whether what was refused is done by hand, with what came back of it.
-fn is_done_again(
-    notes: &Notes,
-    cache: &mut Cached,
-    (choice, is_there): (Choice, bool),
-    refused: ComputeRefused<String, String>,
-    number: u64,
-) -> bool {
-    let (now, clock) = (Instant(number), &mut FixedClock(Instant(number)));
-    match refused {
-        ComputeRefused::Lookup(key) => {
-            let value = notes.text("value", number);
-            matches!(
-                is_done(cache, (choice, is_there), key, value, now),
-                Ok(true)
-            )
-        }
-        ComputeRefused::Insert(refused) => {
-            matches!(choice, Choice::Put) && is_put_back(cache, refused, now)
-        }
-        ComputeRefused::NotTold(key, refused) => {
-            let again = notes.text("computed", number);
-            matches!(choice, Choice::Remove)
-                && cache.insert(again, refused.value, now, clock).is_ok()
-                && cache.remove(&key, now, clock).is_ok()
-        }
-    }
-}
-
-/// Whether what is chosen is done.
-fn is_computed(notes: &mut Notes, cache: &mut Cached, chosen: (Choice, bool), number: u64) -> bool {
-    let now = Instant(number);
-    let (key, value) = (notes.text("computed", number), notes.text("value", number));
-    let before = told_by(cache);
-    match is_done(cache, chosen, key, value, now) {
-        Ok(is_right) => is_right,
-        Err(refused) => {
-            let (place, expected) = expected_after(&refused, before, chosen.1);
-            notes.refused("Cache::compute_with", place, &expected, &told_by(cache));
-            is_done_again(notes, cache, chosen, refused, number)
-        }
-    }
+    is_right
 }
 
 /// Makes each call with texts of this number; then a run is made.
-pub fn round(notes: &mut Notes, cache: &mut Cached, number: u64) -> Round {
-    let are_asked = are_asked(notes, cache, number);
-    let mut is_right = is_nothing_made(notes, cache, number) && are_asked;
-    for chosen in CHOICES {
-        is_right = is_computed(notes, cache, chosen, number) && is_right;
-    }
-    run(cache, Instant(number), is_right, None)
+pub fn round(notes: &mut Notes, cache: &mut Cached, words: Words) -> Round {
+    let are_asked = are_asked(notes, cache, words);
+    let is_nothing_made = is_nothing_made(notes, cache, words);
+    let are_computed = are_computed(notes, cache, words);
+    run(
+        cache,
+        words,
+        are_asked && is_nothing_made && are_computed,
+        None,
+    )
 }

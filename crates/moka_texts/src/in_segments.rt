@@ -1,9 +1,9 @@
 //! The calls of a cache in segments, made with one text after the other.
+use crate::calls::{Ask, Call};
 use crate::engine::Ids;
-use crate::notes::Notes;
-use crate::report::{Report, Round, Told, told_of};
-use moka_drive::{GetWithRefused, Stats};
-use moka_engine::{FixedClock, InsertRefused, Instant, NoExpiry, NoPredicate, PredicateId};
+use crate::notes::{Notes, Words};
+use crate::report::{Left, Refused, Report, Round, Told, told_of};
+use moka_engine::{NoExpiry, NoPredicate, PredicateId};
 use moka_segments::{RegisterRefused, SegmentedCache};
 
 /// A cache of texts by texts, in segments.
@@ -15,174 +15,178 @@ fn told_by(cache: &Segmented, key: &String) -> Told {
     told_of(segment.engine(), cache.stats())
 }
 
-/// Whether a text whose value begins with a word is put in, at the second time if not at the first.
-fn is_put(notes: &mut Notes, cache: &mut Segmented, word: &str, number: u64) -> bool {
-    let now = Instant(number);
-    let (key, value) = (notes.text("key", number), notes.text(word, number));
+/// Puts the call's value under its key.
+fn insert(cache: &mut Segmented, call: Call, words: Words) -> Result<Option<String>, Refused> {
+    let (key, value) = (words.text(call.key), words.text(call.value));
+    match cache.insert(key, value, words.now, &mut words.clock()) {
+        Ok(()) => Ok(None),
+        Err(refused) => Err(call.not_put(refused, words)),
+    }
+}
+
+/// The value of a key, made if the key is not there.
+fn get_made(cache: &mut Segmented, call: Call, words: Words) -> Result<Option<String>, Refused> {
+    let (key, made) = (words.text(call.key), words.text(call.value));
+    match cache.get_with(key, || made, words.now, &mut words.clock()) {
+        Ok(value) => Ok(Some(value)),
+        Err(refused) => Err(call.not_got(refused, words)),
+    }
+}
+
+fn make(cache: &mut Segmented, call: Call, words: Words) -> Result<Option<String>, Refused> {
+    let (now, clock) = (words.now, &mut words.clock());
+    match call.ask {
+        Ask::Insert => insert(cache, call, words),
+        Ask::GetWith => get_made(cache, call, words),
+        Ask::Get => match cache.get(&words.text(call.key), now, clock) {
+            Ok(found) => Ok(found),
+            Err(_) => Err(Refused::new()),
+        },
+        _ => match cache.remove(&words.text(call.key), now, clock) {
+            Ok(taken) => Ok(taken),
+            Err(refused) => Err(call.not_told(refused, words)),
+        },
+    }
+}
+
+/// Whether the call answers as it should.
+fn is_answered(cache: &mut Segmented, call: Call, words: Words) -> Result<bool, Refused> {
+    match make(cache, call, words) {
+        Ok(answer) => Ok(words.is_found(call.expected, answer)),
+        Err(refused) => Err(refused),
+    }
+}
+
+/// Whether the call answers as it should, and is not refused.
+fn is_right(cache: &mut Segmented, call: Call, words: Words) -> bool {
+    matches!(is_answered(cache, call, words), Ok(true))
+}
+
+/// Whether what a refused call has left is done.
+fn is_done(cache: &mut Segmented, call: Call, left: Left, words: Words) -> bool {
+    let is_put = matches!(left, Left::Call) || is_right(cache, call.insert(), words);
+    is_put && (matches!(left, Left::Insert) || is_right(cache, call, words))
+}
+
+/// Whether a call answers as it should. What one that is refused has left to do is done.
+fn is_made(notes: &mut Notes, cache: &mut Segmented, call: Call, words: Words) -> bool {
+    let key = words.text(call.key);
     let before = told_by(cache, &key);
-    match cache.insert(key, value, now, &mut FixedClock(now)) {
-        Ok(()) => true,
+    match is_answered(cache, call, words) {
+        Ok(is_right) => is_right,
         Err(refused) => {
-            let after = told_by(cache, &refused.key);
-            notes.refused("SegmentedCache::insert", "", &before, &after);
-            is_put_back(cache, refused, now)
+            notes.refused(call.name, refused, &before, &told_by(cache, &key));
+            refused.is_back && is_done(cache, call, refused.left, words)
         }
     }
 }
 
-/// Whether what came back of a call is put in.
-fn is_put_back(
-    cache: &mut Segmented,
-    refused: InsertRefused<String, String>,
-    now: Instant,
-) -> bool {
-    cache
-        .insert(refused.key, refused.value, now, &mut FixedClock(now))
-        .is_ok()
-}
-
-/// Whether the text that was put in is found.
-fn is_got(notes: &mut Notes, cache: &mut Segmented, number: u64) -> bool {
-    let now = Instant(number);
-    let (key, value) = (notes.text("key", number), notes.text("value", number));
-    let before = told_by(cache, &key);
-    match cache.get(&key, now, &mut FixedClock(now)) {
-        Ok(found) => found == Some(value),
-        Err(_) => {
-            notes.refused("SegmentedCache::get", "", &before, &told_by(cache, &key));
-            cache.get(&key, now, &mut FixedClock(now)) == Ok(Some(value))
-        }
-    }
-}
-
-/// The text of a key, or else the one that is made.
-fn make(
-    cache: &mut Segmented,
-    key: String,
-    made: String,
-    now: Instant,
-) -> Result<String, GetWithRefused<String, String>> {
-    cache.get_with(key, || made, now, &mut FixedClock(now))
-}
-
-/// Whether the text of a key of its own is handed out, made if it is not there. A look-up that is refused is made again
-/// with the key that came back, and an insert with key and value.
-fn is_made(notes: &mut Notes, cache: &mut Segmented, number: u64) -> bool {
-    let now = Instant(number);
-    let (key, made) = (notes.text("made by", number), notes.text("made", number));
-    let expected = notes.text("made", number);
-    let before = told_by(cache, &key);
-    match make(cache, key, made, now) {
-        Ok(value) => value == expected,
-        Err(GetWithRefused::Lookup(key)) => {
-            let after = told_by(cache, &key);
-            notes.refused(
-                "SegmentedCache::get_with",
-                " at the look-up",
-                &before,
-                &after,
-            );
-            let made = notes.text("made", number);
-            match make(cache, key, made, now) {
-                Ok(value) => value == expected,
-                Err(_) => false,
-            }
-        }
-        Err(GetWithRefused::Insert(refused)) => {
-            let counted = Stats {
-                hits: 0,
-                misses: 1,
-                loads: 1,
-            };
-            let after = told_by(cache, &refused.key);
-            let call = "SegmentedCache::get_with";
-            notes.refused(call, " at the insert", &before.after(counted), &after);
-            let is_right = refused.value == expected;
-            is_put_back(cache, refused, now) && is_right
-        }
-    }
-}
-
-/// Whether a text is taken out. If the listener was not notified, the value that came back is put in and taken out
-/// again.
-fn is_taken_out(notes: &mut Notes, cache: &mut Segmented, number: u64) -> bool {
-    let (now, clock) = (Instant(number), &mut FixedClock(Instant(number)));
-    let (key, again) = (notes.text("key", number), notes.text("key", number));
-    let before = told_by(cache, &key);
-    match cache.remove(&key, now, clock) {
-        Ok(_) => true,
-        Err(refused) => {
-            let after = told_by(cache, &key);
-            notes.refused(
-                "SegmentedCache::remove",
-                "",
-                &before.after_writes(1),
-                &after,
-            );
-            cache.insert(again, refused.value, now, clock).is_ok()
-                && cache.remove(&key, now, clock).is_ok()
-        }
-    }
+fn no_predicate() -> NoPredicate {
+    NoPredicate
 }
 
 /// Registers a predicate that covers nothing in each segment.
 fn register(
     cache: &mut Segmented,
     ids: &mut Ids,
-    now: Instant,
+    words: Words,
 ) -> Result<Vec<PredicateId>, RegisterRefused<NoPredicate>> {
-    cache.invalidate_entries_if(|| NoPredicate, now, ids)
+    cache.invalidate_entries_if(no_predicate, words.now, ids)
 }
 
 /// Whether a predicate that covers nothing is registered in each segment. If one refuses, those before it have used an
 /// identifier each.
-fn is_registered(notes: &mut Notes, cache: &mut Segmented, now: Instant) -> bool {
-    let first = u128::from(now.0).wrapping_mul(100);
+fn is_registered(notes: &mut Notes, cache: &mut Segmented, words: Words) -> bool {
+    let first = u128::from(words.number).wrapping_mul(100);
     let mut ids = Ids(first);
-    match register(cache, &mut ids, now) {
+    match register(cache, &mut ids, words) {
         Ok(_) => true,
         Err(refused) => {
             notes.say("SegmentedCache::invalidate_entries_if", "");
             let is_right = ids.0 == first.wrapping_add(refused.done.len() as u128);
-            register(cache, &mut ids, now).is_ok() && is_right
+            register(cache, &mut ids, words).is_ok() && is_right
         }
     }
 }
 
-/// How many bytes the keys have that are listed.
-fn listed(notes: &mut Notes, cache: &Segmented, now: Instant) -> Option<usize> {
-    let entries = match cache.iter(now) {
-        Ok(entries) => entries,
-        Err(_) => {
-            notes.say("SegmentedCache::iter", "");
-            cache.iter(now).ok()?
-        }
-    };
+/// How many bytes the keys have that are listed, if they can be.
+fn bytes_of_keys(cache: &Segmented, words: Words) -> Option<usize> {
     let mut bytes = 0_usize;
-    for (key, _) in entries {
+    for (key, _) in cache.iter(words.now).ok()? {
         bytes = bytes.wrapping_add(key.len());
     }
     Some(bytes)
 }
 
-/// Makes each call with texts of this number; then a run is made. The entries are those of all segments.
-pub fn round(notes: &mut Notes, cache: &mut Segmented, number: u64) -> Round {
-    let (now, key) = (Instant(number), notes.text("key", number));
-    let is_first_put = is_put(notes, cache, "first", number);
-    let is_put = is_put(notes, cache, "value", number) && is_first_put;
-    let is_got = is_got(notes, cache, number);
-    let is_first_made = is_made(notes, cache, number);
-    let is_made = is_made(notes, cache, number) && is_first_made;
-    let is_registered = is_registered(notes, cache, now);
-    let listed = listed(notes, cache, now);
-    let is_taken_out = number % 3 != 2 || is_taken_out(notes, cache, number);
-    let is_more = cache.run_pending_tasks(now, &mut FixedClock(now));
-    let mut told = told_by(cache, &key);
+/// How many bytes the keys have that are listed.
+fn listed(notes: &mut Notes, cache: &Segmented, words: Words) -> Option<usize> {
+    let first = bytes_of_keys(cache, words);
+    if first.is_some() {
+        return first;
+    }
+    notes.say("SegmentedCache::iter", "");
+    bytes_of_keys(cache, words)
+}
+
+/// A text is put in twice and asked for.
+const CALLS: [(Ask, &str, &str, bool); 3] = [
+    (Ask::Insert, "SegmentedCache::insert", "first", false),
+    (Ask::Insert, "SegmentedCache::insert", "value", false),
+    (Ask::Get, "SegmentedCache::get", "value", true),
+];
+
+/// Whether the value of a key of its own is handed out, which is made if it is not there, and then found.
+fn is_found(notes: &mut Notes, cache: &mut Segmented, words: Words) -> bool {
+    let name = "SegmentedCache::get_with";
+    let texts = ("made by", "made");
+    let make = Call::new(Ask::GetWith, name, texts, false).answering("made");
+    let is_first_made = is_made(notes, cache, make, words);
+    let find = Call::new(Ask::GetWith, name, texts, true);
+    is_made(notes, cache, find, words) && is_first_made
+}
+
+/// Whether a text is put in and found.
+fn is_put_and_got(notes: &mut Notes, cache: &mut Segmented, words: Words) -> bool {
+    let mut is_right = true;
+    for (ask, name, value, is_there) in CALLS {
+        let call = Call::new(ask, name, ("key", value), is_there);
+        is_right = is_made(notes, cache, call, words) && is_right;
+    }
+    is_right
+}
+
+/// Whether the text is taken out.
+fn is_taken_out(notes: &mut Notes, cache: &mut Segmented, words: Words) -> bool {
+    let removal = Call::new(
+        Ask::Remove,
+        "SegmentedCache::remove",
+        ("key", "value"),
+        true,
+    );
+    is_made(notes, cache, removal, words)
+}
+
+/// Makes a run, and says what the segment of the round's key tells then. The entries are those of all segments.
+fn run(cache: &mut Segmented, words: Words, is_right: bool, listed: Option<usize>) -> Round {
+    let is_more = cache.run_pending_tasks(words.now, &mut words.clock());
+    let mut told = told_by(cache, &words.text("key"));
     told.entries = cache.entry_count();
     Round {
-        is_right: is_put && is_got && is_made && is_registered && is_taken_out,
+        is_right,
         listed,
         is_more,
         told,
     }
+}
+
+/// Makes each call with texts of this number, of which each third one is taken out; then a run is made.
+pub fn round(notes: &mut Notes, cache: &mut Segmented, words: Words) -> Round {
+    let is_got = is_put_and_got(notes, cache, words);
+    let is_found = is_found(notes, cache, words);
+    let is_registered = is_registered(notes, cache, words);
+    let listed = listed(notes, cache, words);
+    let is_kept = words.number % 3 != 2;
+    let is_taken_out = is_kept || is_taken_out(notes, cache, words);
+    let is_right = is_got && is_found && is_registered && is_taken_out;
+    run(cache, words, is_right, listed)
 }

@@ -3,6 +3,7 @@
 //! refuses each allocation in turn.
 #![tactic(auto)]
 
+mod calls;
 mod engine;
 mod entries;
 mod in_segments;
@@ -13,7 +14,7 @@ mod saved;
 mod synchronous;
 
 use crate::in_segments::Segmented;
-use crate::notes::Notes;
+use crate::notes::{Notes, Words};
 use crate::report::{Report, Round, Texts};
 use crate::synchronous::Cached;
 use moka_drive::Cache;
@@ -21,13 +22,15 @@ use moka_engine::{
     CacheConfig, EvictionPolicy, Instant, NoExpiry, NoPredicate, NoWeigher, OutOfMemory,
 };
 use moka_segments::SegmentedCache;
-use std::alloc::Global;
 use std::io;
 use std::io::Write;
 use std::time::Duration;
 
 /// How many texts are put in.
 const TEXTS: u64 = 12;
+
+/// How often it is tried to make a cache: memory is refused once at most.
+const TRIES: u64 = 2;
 
 /// How the caches are made.
 type Config = CacheConfig<NoExpiry, Report, NoPredicate, NoWeigher>;
@@ -51,10 +54,13 @@ fn main(rt: HostRuntime) -> io::Result<()> {
 }
 
 fn ask_engine<W: Write>(out: &mut W, notes: &mut Notes) -> io::Result<()> {
-    match new_engine(notes) {
-        Ok(mut cache) => make_engine_rounds(out, notes, &mut cache),
-        Err(_) => writeln!(out, "no engine"),
+    for _ in 0..TRIES {
+        match config().build(notes.alloc, Instant(0)) {
+            Ok(mut cache) => return make_engine_rounds(out, notes, &mut cache),
+            Err(_) => notes.say("build", ""),
+        }
     }
+    writeln!(out, "no engine")
 }
 
 fn make_engine_rounds<W: Write>(
@@ -63,33 +69,32 @@ fn make_engine_rounds<W: Write>(
     cache: &mut Texts,
 ) -> io::Result<()> {
     for number in 0..TEXTS {
-        print(out, number, &engine::round(notes, cache, number))?;
+        let words = Words::new(notes.alloc, number);
+        print(out, number, &engine::round(notes, cache, words))?;
     }
     Ok(())
 }
 
+/// Makes the calls with one text on one cache, and saves it into another, which is empty.
 fn ask_synchronous<W: Write>(out: &mut W, notes: &mut Notes) -> io::Result<()> {
-    match (new_cached(notes), new_cached(notes)) {
-        (Ok(mut first), Ok(mut second)) => ask_both(out, notes, &mut first, &mut second),
-        _ => writeln!(out, "no cache"),
+    match new_cached(notes) {
+        Ok(mut cache) => {
+            make_rounds(out, notes, &mut cache, Section::Single)?;
+            make_rounds(out, notes, &mut cache, Section::Entries)?;
+            ask_saved(out, notes, &mut cache)
+        }
+        Err(_) => writeln!(out, "no cache"),
     }
 }
 
-/// Makes the calls with one text on one cache, and saves it into another, which is empty.
-fn ask_both<W: Write>(
-    out: &mut W,
-    notes: &mut Notes,
-    first: &mut Cached,
-    second: &mut Cached,
-) -> io::Result<()> {
-    for section in [Section::Single, Section::Entries] {
-        make_rounds(out, notes, first, section)?;
+fn ask_saved<W: Write>(out: &mut W, notes: &mut Notes, first: &mut Cached) -> io::Result<()> {
+    match new_cached(notes) {
+        Ok(mut second) => {
+            let is_saved = saved::is_saved(notes, first, &mut second);
+            writeln!(out, "saved: right {is_saved}")
+        }
+        Err(_) => writeln!(out, "no cache"),
     }
-    writeln!(
-        out,
-        "saved: right {}",
-        saved::is_saved(notes, first, second)
-    )
 }
 
 /// Makes the calls with several texts on a cache of their own, which has no memory from others.
@@ -107,10 +112,11 @@ fn make_rounds<W: Write>(
     section: Section,
 ) -> io::Result<()> {
     for number in 0..TEXTS {
+        let words = Words::new(notes.alloc, number);
         let round = match section {
-            Section::Single => synchronous::round(notes, cache, number),
-            Section::Entries => entries::round(notes, cache, number),
-            Section::Many => many::round(notes, cache, number),
+            Section::Single => synchronous::round(notes, cache, words),
+            Section::Entries => entries::round(notes, cache, words),
+            Section::Many => many::round(notes, cache, words),
         };
         print(out, number, &round)?;
     }
@@ -118,10 +124,13 @@ fn make_rounds<W: Write>(
 }
 
 fn ask_in_segments<W: Write>(out: &mut W, notes: &mut Notes) -> io::Result<()> {
-    match new_segmented(notes) {
-        Ok(mut cache) => make_rounds_in_segments(out, notes, &mut cache),
-        Err(_) => writeln!(out, "no cache in segments"),
+    for _ in 0..TRIES {
+        match SegmentedCache::build(3, Some(6), config_of, notes.alloc, Instant(0)) {
+            Ok(mut cache) => return make_rounds_in_segments(out, notes, &mut cache),
+            Err(_) => notes.say("SegmentedCache::build", ""),
+        }
     }
+    writeln!(out, "no cache in segments")
 }
 
 fn make_rounds_in_segments<W: Write>(
@@ -130,7 +139,8 @@ fn make_rounds_in_segments<W: Write>(
     cache: &mut Segmented,
 ) -> io::Result<()> {
     for number in 0..TEXTS {
-        print(out, number, &in_segments::round(notes, cache, number))?;
+        let words = Words::new(notes.alloc, number);
+        print(out, number, &in_segments::round(notes, cache, words))?;
     }
     Ok(())
 }
@@ -162,47 +172,18 @@ fn config() -> Config {
         .support_invalidation_closures()
 }
 
-/// An empty cache with tickets.
-fn new_engine(notes: &mut Notes) -> Result<Texts, OutOfMemory> {
-    match empty(notes.alloc) {
-        Ok(cache) => Ok(cache),
-        Err(_) => {
-            notes.say("build", "");
-            empty(notes.alloc)
-        }
-    }
-}
-
-fn empty(alloc: Global) -> Result<Texts, OutOfMemory> {
-    config().build(alloc, Instant(0))
-}
-
 /// An empty synchronous cache.
 fn new_cached(notes: &mut Notes) -> Result<Cached, OutOfMemory> {
-    match empty_cached(notes.alloc) {
-        Ok(cached) => Ok(cached),
-        Err(_) => {
-            notes.say("Cache::build", "");
-            empty_cached(notes.alloc)
+    for _ in 0..TRIES {
+        match Cache::build(config(), notes.alloc, Instant(0)) {
+            Ok(cache) => return Ok(cache),
+            Err(_) => notes.say("Cache::build", ""),
         }
     }
+    Err(OutOfMemory)
 }
 
-fn empty_cached(alloc: Global) -> Result<Cached, OutOfMemory> {
-    Cache::build(config(), alloc, Instant(0))
-}
-
-/// An empty cache in segments.
-fn new_segmented(notes: &mut Notes) -> Result<Segmented, OutOfMemory> {
-    match empty_segmented(notes.alloc) {
-        Ok(segmented) => Ok(segmented),
-        Err(_) => {
-            notes.say("SegmentedCache::build", "");
-            empty_segmented(notes.alloc)
-        }
-    }
-}
-
-fn empty_segmented(alloc: Global) -> Result<Segmented, OutOfMemory> {
-    SegmentedCache::build(3, Some(6), |_| config(), alloc, Instant(0))
+/// That of each segment.
+fn config_of(_: u32) -> Config {
+    config()
 }

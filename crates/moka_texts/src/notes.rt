@@ -1,11 +1,75 @@
-//! Which call was refused, and the texts that calls are made with.
-use crate::report::Told;
+//! The texts that calls are made with, and which call was refused.
+use crate::report::{Refused, Told};
+use moka_engine::{FixedClock, InsertRefused, Instant};
 use std::alloc::{AllocError, Global};
 use std::io;
 use std::io::Write;
 
-/// Makes texts, and takes down which call was refused.
-#[derive(Drop)]
+/// Makes the texts of a round, each of a word and the round's number, and tells the moment of its calls.
+#[derive(Clone, Copy)]
+pub struct Words {
+    pub alloc: Global,
+    pub number: u64,
+    pub now: Instant,
+}
+
+impl Words {
+    /// Those of a round that is made at the moment of its number.
+    pub fn new(alloc: Global, number: u64) -> Self {
+        let now = Instant(number);
+        Words { alloc, number, now }
+    }
+
+    /// Those of another number, at the same moment.
+    pub fn numbered(self, number: u64) -> Self {
+        let mut words = self;
+        words.number = number;
+        words
+    }
+
+    pub fn clock(self) -> FixedClock {
+        FixedClock(self.now)
+    }
+
+    /// A word with the number. Where memory for it is refused, it is made again; an empty text if that is refused too.
+    pub fn text(self, word: &str) -> String {
+        match self.make(word) {
+            Ok(text) => text,
+            Err(_) => self.make(word).unwrap_or(String::new(self.alloc)),
+        }
+    }
+
+    fn make(self, word: &str) -> Result<String, AllocError> {
+        format!(in self.alloc; "{word} {}", self.number)
+    }
+
+    /// Whether a text is a word with the number.
+    pub fn is(self, word: &str, text: &String) -> bool {
+        *text == self.text(word)
+    }
+
+    /// How many bytes the text of a word has.
+    pub fn len(self, word: &str) -> usize {
+        self.text(word).len()
+    }
+
+    /// Whether key and value came back.
+    pub fn is_back(self, key: &str, value: &str, refused: &InsertRefused<String, String>) -> bool {
+        self.is(key, &refused.key) && self.is(value, &refused.value)
+    }
+
+    /// Whether what was found is the text of this word, or nothing where no word is given.
+    pub fn is_found(self, word: Option<&str>, found: Option<String>) -> bool {
+        match (word, found) {
+            (Some(word), Some(text)) => self.is(word, &text),
+            (None, None) => true,
+            _ => false,
+        }
+    }
+}
+
+/// Takes down which call was refused.
+#[derive(Clone, Copy)]
 pub struct Notes {
     pub alloc: Global,
     /// How many calls were refused.
@@ -28,52 +92,33 @@ impl Notes {
         }
     }
 
-    /// A word with a number. Where memory for it is refused, it is made again; an empty text if that is refused too.
-    pub fn text(&self, word: &str, number: u64) -> String {
-        match numbered(self.alloc, word, number) {
-            Ok(text) => text,
-            Err(_) => match numbered(self.alloc, word, number) {
-                Ok(text) => text,
-                Err(_) => String::new(self.alloc),
-            },
-        }
-    }
-
     /// A call was refused.
     pub fn say(&mut self, call: &'static str, place: &'static str) {
         self.count = self.count.wrapping_add(1);
         (self.call, self.place) = (call, place);
     }
 
-    /// A call was refused, and the cache told something after it.
-    pub fn refused(
-        &mut self,
-        call: &'static str,
-        place: &'static str,
-        expected: &Told,
-        after: &Told,
-    ) {
-        self.say(call, place);
-        if expected != after {
-            self.changed = Some((*expected, *after));
+    /// A call was refused, before and after which the cache told this.
+    pub fn refused(&mut self, call: &'static str, refused: Refused, before: &Told, after: &Told) {
+        self.say(call, refused.place);
+        let expected = before.after(refused);
+        if expected != *after {
+            self.changed = Some((expected, *after));
         }
     }
 
-    /// Says which call was refused, and whether the cache told something else than was expected after it.
+    /// Says which call was refused, and if others were, or the cache told something else than was expected after it.
     pub fn print<W: Write>(&self, out: &mut W) -> io::Result<()> {
         if self.count > 0 {
             writeln!(out, "refused: {}{}", self.call, self.place)?;
         }
-        if self.count > 1 {
-            writeln!(out, "and others before: {} calls", self.count)?;
-        }
-        if let Some((expected, after)) = &self.changed {
-            writeln!(out, "changed: {expected:?} to {after:?}")?;
+        if self.count > 1 || self.changed.is_some() {
+            writeln!(
+                out,
+                "refused {} calls, changed {:?}",
+                self.count, self.changed
+            )?;
         }
         Ok(())
     }
-}
-
-fn numbered(alloc: Global, word: &str, number: u64) -> Result<String, AllocError> {
-    format!(in alloc; "{word} {number}")
 }

@@ -1,6 +1,6 @@
 //! What a cache tells of itself, and its listener of it.
 use moka_drive::Stats;
-use moka_engine::{Engine, Listener, NoExpiry, NoPredicate, RemovalCause, Ticket};
+use moka_engine::{Engine, Listener, NoExpiry, NoPredicate, OutOfMemory, RemovalCause, Ticket};
 
 /// Counts the notices, and the bytes of their keys and values.
 #[derive(Clone, Copy)]
@@ -55,30 +55,88 @@ pub fn told_of(cache: &Texts, stats: Stats) -> Told {
 }
 
 impl Told {
-    /// After these look-ups and loads.
-    pub fn after(self, counted: Stats) -> Told {
+    /// After a call that was refused.
+    pub fn after(self, refused: Refused) -> Told {
+        let Refused { counted, .. } = refused;
         let looked_up = counted.hits.wrapping_add(counted.misses) as usize;
         let mut after = self;
         after.reads = self.reads.wrapping_add(looked_up);
+        after.writes = self.writes.wrapping_add(refused.writes);
+        after.notices = self.notices.wrapping_add(refused.notices);
+        after.bytes = self.bytes.wrapping_add(refused.bytes);
         after.stats.hits = self.stats.hits.wrapping_add(counted.hits);
         after.stats.misses = self.stats.misses.wrapping_add(counted.misses);
         after.stats.loads = self.stats.loads.wrapping_add(counted.loads);
         after
     }
+}
 
-    /// After so many inserts and removals of which the listener was not told.
-    pub fn after_writes(self, writes: usize) -> Told {
-        let mut after = self;
-        after.writes = self.writes.wrapping_add(writes);
-        after
+/// What is left to do of a refused call.
+#[derive(Clone, Copy)]
+pub enum Left {
+    /// All of it: nothing has changed.
+    Call,
+    /// The insert of its value.
+    Insert,
+    /// The value was taken out, and the listener is to be told of it.
+    Notice,
+}
+
+/// What a refused call has left to do and has done: what it counted, how many writes it queued of which the listener
+/// was not told, of how many texts with how many bytes it was told, and whether all came back that was handed in.
+#[derive(Clone, Copy)]
+pub struct Refused {
+    pub left: Left,
+    /// The step at which it was refused, where it has several.
+    pub place: &'static str,
+    pub counted: Stats,
+    pub writes: usize,
+    pub notices: u64,
+    pub bytes: usize,
+    pub is_back: bool,
+}
+
+impl Refused {
+    /// A call that has done nothing.
+    pub fn new() -> Self {
+        Refused {
+            left: Left::Call,
+            place: "",
+            counted: Stats::new(),
+            writes: 0,
+            notices: 0,
+            bytes: 0,
+            is_back: true,
+        }
     }
 
-    /// After so many notices of texts with so many bytes.
-    pub fn after_notices(self, notices: u64, bytes: usize) -> Told {
-        let mut after = self;
-        after.notices = self.notices.wrapping_add(notices);
-        after.bytes = self.bytes.wrapping_add(bytes);
-        after
+    /// A call that has done nothing, with what came back of it.
+    pub fn before_all(place: &'static str, is_back: bool) -> Self {
+        let mut refused = Refused::new();
+        (refused.place, refused.is_back) = (place, is_back);
+        refused
+    }
+
+    /// A look-up that found its key or not, and whose value was not put in.
+    pub fn before_insert(counted: Stats, is_back: bool) -> Self {
+        let mut refused = Refused::before_all(" at the insert", is_back);
+        (refused.left, refused.counted) = (Left::Insert, counted);
+        refused
+    }
+
+    /// A removal of which the listener was not told.
+    pub fn before_notice(place: &'static str, counted: Stats, is_back: bool) -> Self {
+        let mut refused = Refused::before_all(place, is_back);
+        (refused.left, refused.counted, refused.writes) = (Left::Notice, counted, 1);
+        refused
+    }
+}
+
+/// A call that does nothing where memory is refused.
+pub fn or_refused(answered: Result<bool, OutOfMemory>) -> Result<bool, Refused> {
+    match answered {
+        Ok(is_right) => Ok(is_right),
+        Err(_) => Err(Refused::new()),
     }
 }
 

@@ -1,8 +1,9 @@
 //! A cache that is saved, and another one that is made of what was saved, asked by texts that need not be owned.
-use crate::notes::Notes;
-use crate::synchronous::{Cached, is_put, told_by};
+use crate::calls::{Ask, Call};
+use crate::notes::{Notes, Words};
+use crate::synchronous::{Cached, is_made};
 use moka_drive::RestoreManyRefused;
-use moka_engine::{FixedClock, Instant, OutOfMemory, Restored};
+use moka_engine::{Instant, OutOfMemory, Restored};
 
 /// How many texts are saved.
 const SAVED: u64 = 4;
@@ -10,70 +11,50 @@ const SAVED: u64 = 4;
 /// When they are.
 const NOW: Instant = Instant(1_000);
 
+type Saved = Vec<Restored<String, String>>;
+
 /// Clones of a cache's entries.
-fn save(
-    notes: &mut Notes,
-    cache: &mut Cached,
-) -> Result<Vec<Restored<String, String>>, OutOfMemory> {
-    match cache.save(notes.alloc, NOW, &mut FixedClock(NOW)) {
-        Ok(saved) => Ok(saved),
-        Err(_) => {
-            notes.say("Cache::save", "");
-            cache.save(notes.alloc, NOW, &mut FixedClock(NOW))
-        }
+fn save(notes: &mut Notes, cache: &mut Cached, words: Words) -> Result<Saved, OutOfMemory> {
+    let saved = cache.save(words.alloc, words.now, &mut words.clock());
+    if saved.is_ok() {
+        return saved;
     }
+    notes.say("Cache::save", "");
+    cache.save(words.alloc, words.now, &mut words.clock())
 }
 
-/// Whether all entries are put back. One that is refused is put back again, and then those behind it.
+/// Puts all entries back. One that is refused comes back with those behind it.
 fn are_put_back(
-    notes: &mut Notes,
     cache: &mut Cached,
-    saved: Vec<Restored<String, String>>,
+    refused: RestoreManyRefused<String, String>,
+    words: Words,
 ) -> bool {
-    let clock = &mut FixedClock(NOW);
-    match cache.restore(saved, NOW, clock) {
-        Ok(()) => true,
-        Err(RestoreManyRefused { refused, rest }) => {
-            notes.say("Cache::restore", "");
-            let mut is_right = cache.restore_entry(refused.item, NOW, clock).is_ok();
-            for item in rest {
-                is_right = cache.restore_entry(item, NOW, clock).is_ok() && is_right;
-            }
-            is_right
-        }
-    }
-}
-
-/// A clone of a key's text, if it is there, asked for by the key's bytes alone.
-fn get(notes: &mut Notes, cache: &mut Cached, key: &str) -> Option<String> {
-    let hash = cache.hash_of(&key);
-    let before = told_by(cache);
-    match cache.get_by(&key, hash, NOW, &mut FixedClock(NOW)) {
-        Ok(found) => found,
-        Err(_) => {
-            notes.refused("Cache::get_by", "", &before, &told_by(cache));
-            cache
-                .get_by(&key, hash, NOW, &mut FixedClock(NOW))
-                .unwrap_or(None)
-        }
-    }
-}
-
-/// Whether texts are put in.
-fn are_put(notes: &mut Notes, cache: &mut Cached) -> bool {
-    let mut is_right = true;
-    for number in 0..SAVED {
-        is_right = is_put(notes, cache, ("saved", "text"), number, NOW) && is_right;
+    let clock = &mut words.clock();
+    let mut is_right = cache
+        .restore_entry(refused.refused.item, words.now, clock)
+        .is_ok();
+    for item in refused.rest {
+        is_right = cache.restore_entry(item, words.now, clock).is_ok() && is_right;
     }
     is_right
 }
 
-/// Whether these texts are found.
-fn are_found(notes: &mut Notes, cache: &mut Cached) -> bool {
+/// Whether all entries are put back. One that is refused is put back again, and then those behind it.
+fn are_restored(notes: &mut Notes, cache: &mut Cached, saved: Saved, words: Words) -> bool {
+    match cache.restore(saved, words.now, &mut words.clock()) {
+        Ok(()) => true,
+        Err(refused) => {
+            notes.say("Cache::restore", "");
+            are_put_back(cache, refused, words)
+        }
+    }
+}
+
+/// Whether a call answers as it should for the texts that are saved.
+fn are_made(notes: &mut Notes, cache: &mut Cached, call: Call, words: Words) -> bool {
     let mut is_right = true;
     for number in 0..SAVED {
-        let (key, value) = (notes.text("saved", number), notes.text("text", number));
-        is_right = get(notes, cache, &key) == Some(value) && is_right;
+        is_right = is_made(notes, cache, call, words.numbered(number)) && is_right;
     }
     is_right
 }
@@ -81,9 +62,18 @@ fn are_found(notes: &mut Notes, cache: &mut Cached) -> bool {
 /// Whether texts that are put into a cache, which is saved, are found in another one, which is empty, once what was
 /// saved is put into that.
 pub fn is_saved(notes: &mut Notes, first: &mut Cached, second: &mut Cached) -> bool {
-    let are_put = are_put(notes, first);
-    match save(notes, first) {
-        Ok(saved) => are_put && are_put_back(notes, second, saved) && are_found(notes, second),
+    let words = Words {
+        alloc: notes.alloc,
+        number: 0,
+        now: NOW,
+    };
+    let texts = ("saved", "text");
+    let insert = Call::new(Ask::Insert, "Cache::insert", texts, false);
+    let get = Call::new(Ask::GetBy, "Cache::get_by", texts, true);
+    let are_put = are_made(notes, first, insert, words);
+    let are_restored = match save(notes, first, words) {
+        Ok(saved) => are_restored(notes, second, saved, words),
         Err(_) => false,
-    }
+    };
+    are_made(notes, second, get, words) && are_put && are_restored
 }

@@ -41,9 +41,9 @@ pub struct TimedCache<
     V,
     C,
     X: Expiry<K, V> = NoExpiry,
-    L: Listener<K, V> = NoListener,
-    P: PredicateFn<K, V> = NoPredicate,
-    W: Weigher<K, V> = NoWeigher,
+    L = NoListener,
+    P = NoPredicate,
+    W = NoWeigher,
     S: BuildHasher = DefaultHasher,
 > {
     /// The cache, whose calls are given moments.

@@ -22,17 +22,7 @@ use std::hash::{BuildHasher, Hash};
 
 /// A key of a cache that owns its clock, of which one entry call is to be made. moka: `OwnedKeyEntrySelector`.
 #[derive(Drop)]
-pub struct TimedEntrySelector<
-    'a,
-    K: Eq + Hash,
-    V,
-    C,
-    X: Expiry<K, V>,
-    L: Listener<K, V>,
-    P: PredicateFn<K, V>,
-    W: Weigher<K, V>,
-    S: BuildHasher,
-> {
+pub struct TimedEntrySelector<'a, K: Eq + Hash, V, C, X: Expiry<K, V>, L, P, W, S: BuildHasher> {
     cache: &'a mut TimedCache<K, V, C, X, L, P, W, S>,
     key: K,
 }

@@ -1,46 +1,58 @@
-//! Tests of `moka_uses::invalidated`.
-use crate::equal::assert_equal;
-use anyhow::Result;
-use moka_engine::{CacheConfig, Instant, PredicateError};
+//! Tests of `moka_uses::driven` and `moka_uses::invalidated`: a list of calls puts numbers in, which a predicate hides.
+use moka_engine::{CacheConfig, Call, FixedClock, Instant, Reply};
+use moka_uses::driven::make_calls;
 use moka_uses::invalidated::{Below, CountedIds, Numbers, hide_below, run_after_hiding};
-use std::process::Abort;
+use std::alloc::Global;
 
-/// Puts 9 under the key 1, and 10 under the key 2.
-fn fill(numbers: &mut Numbers) -> Result<()> {
-    for (key, value) in [(1, 9), (2, 10)] {
-        if !numbers.is_map_disabled() {
-            let hash = numbers.hash(&key);
-            numbers.do_insert_with_hash(key, hash, value, Instant(0))?;
+const NOW: Instant = Instant(0);
+
+// The call that puts a value under a key.
+fn put(numbers: &Numbers, key: u64, value: u64) -> Call<u64, u64, Below> {
+    let (hash, now) = (numbers.hash(&key), NOW);
+    Call::Insert {
+        key,
+        hash,
+        value,
+        now,
+    }
+}
+
+// Whether 9 is put under the key 1, and 10 under the key 2, and both operations are sent.
+fn fills(alloc: Global, numbers: &mut Numbers) -> bool {
+    let Ok(calls) = vec![in alloc; put(numbers, 1, 9), put(numbers, 2, 10)] else {
+        return false;
+    };
+    let (ids, clock) = (&mut CountedIds(0), &mut FixedClock(NOW));
+    let Ok(replies) = make_calls(alloc, numbers, calls, ids, clock) else {
+        return false;
+    };
+    match replies.as_slice() {
+        [Reply::Insert(Ok((one, _))), Reply::Insert(Ok((other, _)))] => {
+            numbers.send(*one).is_ok() && numbers.send(*other).is_ok()
         }
-    }
-    Ok(())
-}
-
-/// Only the key 2 is there.
-fn check_hidden(rt: &impl Abort, numbers: &Numbers) {
-    for (key, is_there) in [(1, false), (2, true)] {
-        let found = numbers.contains_key_with_hash(&key, numbers.hash(&key), Instant(1));
-        assert_equal(rt, (key, found), (key, is_there));
+        _ => false,
     }
 }
 
-fn check(rt: &impl Abort, numbers: &mut Numbers) -> Result<()> {
-    fill(numbers)?;
-    let mut ids = CountedIds(u128::MAX);
-    hide_below(numbers, 10, Instant(0), &mut ids)?;
-    check_hidden(rt, numbers);
-    let refused = hide_below(numbers, 11, Instant(0), &mut ids).err();
-    let back = refused.map(|refused| (refused.error, refused.predicate));
-    assert_equal(rt, back, Some((PredicateError::NoFreeId, Below(11))));
-    check_hidden(rt, numbers);
-    run_after_hiding(numbers, Instant(0));
-    check_hidden(rt, numbers);
-    Ok(())
+// Whether the key 2 alone is there.
+fn shows_ten_alone(numbers: &Numbers) -> bool {
+    let (one, other) = (numbers.hash(&1), numbers.hash(&2));
+    !numbers.contains_key_with_hash(&1, one, NOW) && numbers.contains_key_with_hash(&2, other, NOW)
+}
+
+fn hides_nine(numbers: &mut Numbers) -> bool {
+    hide_below(numbers, 10, NOW, &mut CountedIds(0)).is_ok()
+        && shows_ten_alone(numbers)
+        && !run_after_hiding(numbers, NOW)
+        && numbers.entry_count() == 1
+        && shows_ten_alone(numbers)
 }
 
 #[test]
-fn hides_what_lies_below(rt: HostRuntime) -> Result<()> {
+fn hides_what_lies_below(rt: HostRuntime) {
     let config = CacheConfig::default().support_invalidation_closures::<Below>();
-    let mut numbers: Numbers = config.build(rt.alloc(), Instant(0))?;
-    check(&rt, &mut numbers)
+    let Ok(mut numbers) = config.build(rt.alloc(), NOW) else {
+        panic!(rt; "memory");
+    };
+    assert!(rt; fills(rt.alloc(), &mut numbers) && hides_nine(&mut numbers));
 }

@@ -1,24 +1,24 @@
 //! Tests of `moka_uses::profiles`.
-use crate::equal::assert_equal;
-use anyhow::Result;
+use crate::makers::{ten, twenty};
 use moka_engine::Instant;
 use moka_timed::ManualClock;
 use moka_uses::profiles::{Profiles, profile, start};
-use std::process::Abort;
 use std::time::Duration;
 
-fn check(rt: &impl Abort, profiles: &mut Profiles<u64, ManualClock>) -> Result<()> {
-    for (later, made, found) in [(0, 10, 10), (4, 11, 10), (1, 12, 12)] {
-        profiles.clock.advance(Duration::from_secs(later));
-        assert_equal(rt, profile(profiles, 1, || made)?, found);
-    }
-    assert_equal(rt, profiles.removals().expired, 1);
-    Ok(())
+// Whether a profile is read once, and again when it has expired.
+fn reads_twice(profiles: &mut Profiles<u64, ManualClock>) -> bool {
+    let read = profile(profiles, 1, ten);
+    let kept = profile(profiles, 1, twenty);
+    profiles.clock.advance(Duration::from_nanos(100));
+    let again = profile(profiles, 1, twenty);
+    matches!(read, Ok(10)) && matches!(kept, Ok(10)) && matches!(again, Ok(20))
 }
 
 #[test]
-fn reads_again_what_has_expired(rt: HostRuntime) -> Result<()> {
+fn reads_again_what_has_expired(rt: HostRuntime) {
     let clock = ManualClock { now: Instant(0) };
-    let mut profiles = start(rt.alloc(), Duration::from_secs(5), clock)?;
-    check(&rt, &mut profiles)
+    let Ok(mut profiles) = start(rt.alloc(), Duration::from_nanos(100), clock) else {
+        panic!(rt; "memory");
+    };
+    assert!(rt; reads_twice(&mut profiles));
 }

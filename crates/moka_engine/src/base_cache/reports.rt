@@ -5,20 +5,10 @@ ghost use Rattle.moka_parts.specs.Calls.{oldest_ticket};
 
 use super::BaseCache;
 use moka_parts::calls::Ticket;
-use moka_parts::closures::{PredicateFn, Weigher};
-use moka_parts::notification::Listener;
 use moka_parts::policy::Expiry;
 use std::hash::{BuildHasher, Hash};
 
-impl<
-    K: Eq + Hash,
-    V,
-    S: BuildHasher,
-    X: Expiry<K, V>,
-    L: Listener<K, V>,
-    P: PredicateFn<K, V>,
-    W: Weigher<K, V>,
-> BaseCache<K, V, S, X, L, P, W> {
+impl<K: Eq + Hash, V, S: BuildHasher, X: Expiry<K, V>, L, P, W> BaseCache<K, V, S, X, L, P, W> {
     /// How many operations were handed out and not sent.
     pub fn outstanding(&self) -> u64
         ensures { result ≡ finite.len self.now.state.outstanding }

@@ -1,7 +1,7 @@
 //! Closures that are really called.
+ghost use Rattle.std.specs.Prelude.{◌≡◌, ◌==◌};
 ghost use Rattle.moka_parts.specs.Closures.{CanAlwaysAsk, HasOneAnswer};
 
-use crate::equal::assert_equal;
 use moka_parts::closures::{
     ByClosure, NoPredicate, NoTest, NoWeigher, PairFn, PredicateFn, ValueTest, Weigher,
 };
@@ -33,34 +33,29 @@ fn count_ignored<F: FnMut(&u64) -> bool>(mut test: F, values: &[u64]) -> u64
     count
 }
 
-#[test]
-fn asks_closures_that_change(rt: HostRuntime) {
+pub fn is_asked() -> bool {
     let mut asked: u64 = 0;
     let is_even = |value: &u64| {
         asked = asked.wrapping_add(1);
         value.is_multiple_of(2)
     };
     let ignored = count_ignored(is_even, &[1, 2, 4]);
-    assert_equal(&rt, (ignored, asked), (2, 3));
+    ignored == 2 && asked == 3
 }
 
-#[test]
-fn asks_closures(rt: HostRuntime) {
+fn are_equal(key: &u64, value: &u64) -> bool
+    ensures { result ≡ (key.now == value.now) }
+{
+    *key == *value
+}
+
+pub fn are_asked() -> bool {
     let heavy: u32 = 7;
-    for (value, weight, is_even) in [(2, 7, true), (3, 1, false)] {
-        let weighs = |_: &u64, v: &u64| if *v == 2 { heavy } else { 1 };
-        let passes = passes_by(|_: &u64, v: &u64| *v % 2 == 0, 1, value);
-        assert_equal(
-            &rt,
-            (weight_by(weighs, 1, value), passes),
-            (weight, is_even),
-        );
-    }
+    let weighs = |_: &u64, v: &u64| if *v == 2 { heavy } else { 1 };
+    weight_by(weighs, 1, 2) == 7 && passes_by(are_equal, 1, 1) && !passes_by(are_equal, 1, 2)
 }
 
-#[test]
-fn answers_the_same_for_all(rt: HostRuntime) {
-    assert_equal(&rt, NoWeigher.weigh(&1u8, &'a'), 1);
-    assert!(rt; !NoPredicate.applies(&1u8, &'a'));
-    assert!(rt; !NoTest.ignores(&'a'));
+pub fn answer_the_same() -> bool {
+    let is_ignored = NoTest.ignores(&1u64);
+    NoWeigher.weigh(&1u64, &2u64) == 1 && !NoPredicate.applies(&1u64, &2u64) && !is_ignored
 }

@@ -1,5 +1,4 @@
 //! When maintenance is due, and what its runs are given.
-use crate::equal::assert_equal;
 use moka_parts::housekeeper::{Clock, Housekeeper, HousekeeperConfig, InnerSync};
 use moka_parts::policy::Instant;
 use std::time::Duration;
@@ -54,48 +53,27 @@ impl Clock for Ticks {
 
 const MILLISECOND: u64 = 1_000_000;
 
-#[test]
-fn knows_when_a_run_is_due(rt: HostRuntime) {
-    let config = HousekeeperConfig::default();
-    let mut housekeeper = Housekeeper::new(true, config, Instant(0));
-    let (before, after) = (Instant(300 * MILLISECOND - 1), Instant(300 * MILLISECOND));
-    for (len, now, is_due) in [(63, before, false), (64, before, true), (0, after, true)] {
-        let reads = housekeeper.should_apply_reads(len, now);
-        let writes = housekeeper.should_apply_writes(len, now);
-        assert_equal(&rt, (reads, writes), (is_due, is_due));
-    }
+pub fn is_due() -> bool {
+    let mut housekeeper = Housekeeper::new(true, HousekeeperConfig::default(), Instant(0));
+    let now = Instant(300 * MILLISECOND);
+    let reads = housekeeper.should_apply_reads(0, now);
+    let writes = housekeeper.should_apply_writes(0, now);
     housekeeper.disable_auto_run();
-    assert!(rt; !housekeeper.should_apply_reads(64, after));
-    assert!(rt; !housekeeper.should_apply_writes(64, after));
-    assert!(rt; !housekeeper.copied().should_apply_writes(64, after));
+    reads && writes && !housekeeper.copied().should_apply_writes(64, now)
 }
 
-#[test]
-fn runs(rt: HostRuntime) {
-    let config = HousekeeperConfig::default();
-    let now = Instant(MILLISECOND);
-    for is_listening in [false, true] {
-        let mut cache = Recorder {
-            given: None,
-            answer: true,
-        };
-        let mut clock = Ticks { readings: 0 };
-        let mut housekeeper = Housekeeper::new(is_listening, config, Instant(0));
-        housekeeper.run_pending_tasks(&mut cache, now, &mut clock);
-        let timeout = is_listening.then_some(Duration::from_millis(100));
-        let is_due = housekeeper.should_apply_writes(0, now);
-        assert_equal(
-            &rt,
-            (cache.given, is_due),
-            (Some((now, timeout, 4, 384)), is_listening),
-        );
-
-        cache.answer = false;
-        assert!(rt;
-            housekeeper.try_run_pending_tasks(&mut cache, Instant(2 * MILLISECOND), &mut clock)
-        );
-        assert_equal(&rt, clock.readings, 2);
-        assert!(rt; !housekeeper.should_apply_reads(0, Instant(302 * MILLISECOND - 1)));
-        assert!(rt; housekeeper.should_apply_reads(0, Instant(302 * MILLISECOND)));
-    }
+/// A run is given the moment, the limit, the repeats and the batch. What is left makes the next one due.
+pub fn are_given() -> bool {
+    let mut cache = Recorder {
+        given: None,
+        answer: true,
+    };
+    let (now, mut clock) = (Instant(MILLISECOND), Ticks { readings: 0 });
+    let mut housekeeper = Housekeeper::new(true, HousekeeperConfig::default(), Instant(0));
+    housekeeper.run_pending_tasks(&mut cache, now, &mut clock);
+    let is_more = housekeeper.should_apply_writes(0, now);
+    cache.answer = false;
+    let is_run = housekeeper.try_run_pending_tasks(&mut cache, now, &mut clock);
+    let given = Some((now, Some(Duration::from_millis(100)), 4, 384));
+    is_more && is_run && cache.given == given && clock.readings == 2
 }

@@ -21,8 +21,7 @@ impl IdSource for OneId {
     }
 }
 
-#[test]
-fn hold_of_states(_rt: HostRuntime) {
+fn hold_of_states() {
     gets_what_is_contained::<u8, char, NoExpiry, NoPredicate, NoWeigher>();
     removes_just_one::<u8, char, NoExpiry, NoPredicate, NoWeigher>();
     peeks_quietly::<u8, char, NoExpiry, NoPredicate, NoWeigher>();
@@ -38,8 +37,7 @@ fn hold_of_states(_rt: HostRuntime) {
     sends_after_run::<u8, char, NoExpiry, NoPredicate, NoWeigher>();
 }
 
-#[test]
-fn hold_of_lists_of_calls(_rt: HostRuntime) {
+fn hold_of_lists_of_calls() {
     stays_hidden::<u8, char, NoExpiry, NoListener, NoPredicate, NoWeigher, FixedClock, OneId>();
     stays_valid::<u8, char, NoExpiry, NoListener, NoPredicate, NoWeigher, FixedClock, OneId>();
     stays_in_order::<u8, char, NoExpiry, NoListener, NoPredicate, NoWeigher, FixedClock, OneId>();
@@ -87,4 +85,10 @@ fn hold_of_lists_of_calls(_rt: HostRuntime) {
         FixedClock,
         OneId,
     >();
+}
+
+#[test]
+fn hold(_rt: HostRuntime) {
+    hold_of_states();
+    hold_of_lists_of_calls();
 }

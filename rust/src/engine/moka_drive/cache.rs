@@ -35,9 +35,9 @@ pub struct Cache<
     K: Eq + Hash,
     V,
     X: Expiry<K, V> = NoExpiry,
-    L: Listener<K, V> = NoListener,
-    P: PredicateFn<K, V> = NoPredicate,
-    W: Weigher<K, V> = NoWeigher,
+    L = NoListener,
+    P = NoPredicate,
+    W = NoWeigher,
     S: BuildHasher = DefaultHasher,
 > {
     engine: BaseCache<K, V, S, X, L, P, W>,

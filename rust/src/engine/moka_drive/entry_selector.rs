@@ -17,16 +17,7 @@ use crate::support::hash::{BuildHasher, Hash};
 
 /// A key of a cache, of which one entry call is to be made. Nothing is hashed or looked up before. moka:
 /// `OwnedKeyEntrySelector`.
-pub struct OwnedKeyEntrySelector<
-    'a,
-    K: Eq + Hash,
-    V,
-    X: Expiry<K, V>,
-    L: Listener<K, V>,
-    P: PredicateFn<K, V>,
-    W: Weigher<K, V>,
-    S: BuildHasher,
-> {
+pub struct OwnedKeyEntrySelector<'a, K: Eq + Hash, V, X: Expiry<K, V>, L, P, W, S: BuildHasher> {
     cache: &'a mut Cache<K, V, X, L, P, W, S>,
     key: K,
 }

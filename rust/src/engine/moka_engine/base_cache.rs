@@ -37,15 +37,7 @@ pub use snapshot::{Snapshot, SnapshotEntry};
 const SEGMENTS: usize = 1;
 
 /// A cache. moka: `sync::base_cache::BaseCache`.
-pub struct BaseCache<
-    K: Eq + Hash,
-    V,
-    S: BuildHasher,
-    X: Expiry<K, V>,
-    L: Listener<K, V>,
-    P: PredicateFn<K, V>,
-    W: Weigher<K, V>,
-> {
+pub struct BaseCache<K: Eq + Hash, V, S: BuildHasher, X: Expiry<K, V>, L, P, W> {
     alloc: Global,
     name: Option<String>,
     inner: Inner<K, V, S>,

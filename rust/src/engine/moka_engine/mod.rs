@@ -14,6 +14,7 @@ use crate::support::prelude::*;
 
 pub mod base_cache;
 pub mod config;
+pub mod structures;
 
 pub use base_cache::{
     BaseCache, RestoreError, RestoreRefused, Restored, Sight, Snapshot, SnapshotEntry,
@@ -33,9 +34,9 @@ pub use crate::engine::moka_parts::housekeeper::{
 };
 pub use crate::engine::moka_parts::invalidator::{IdSource, PredicateId};
 pub use crate::engine::moka_parts::key_test::KeyTest;
+pub use crate::engine::moka_parts::laws;
 pub use crate::engine::moka_parts::notification::{Listener, NoListener, RemovalCause};
 pub use crate::engine::moka_parts::policy::{
     EvictionPolicy, ExpirationPolicy, ExpireAfter, ExpireAfterCreate, ExpireAfterRead,
     ExpireAfterUpdate, Expiry, Instant, NoExpiry, Policy,
 };
-pub use crate::engine::moka_parts::{laws, structures};

@@ -16,4 +16,3 @@ pub mod notification;
 pub mod policy;
 pub mod record_ref;
 pub mod records;
-pub mod structures;

@@ -18,9 +18,9 @@ pub struct SegmentedCache<
     K: Eq + Hash,
     V,
     X: Expiry<K, V> = NoExpiry,
-    L: Listener<K, V> = NoListener,
-    P: PredicateFn<K, V> = NoPredicate,
-    W: Weigher<K, V> = NoWeigher,
+    L = NoListener,
+    P = NoPredicate,
+    W = NoWeigher,
     S: BuildHasher = DefaultHasher,
 > {
     pub(crate) router: Router<S>,

@@ -3,128 +3,81 @@
 use crate::support::prelude::*;
 #[cfg(test)]
 use crate::support::test::prelude::*;
-use crate::proved_tests::moka_drive_tests::entry;
-use crate::proved_tests::moka_drive_tests::makers::{failing, nothing, some_twenty, ten};
-use crate::engine::moka_drive::{Cache, Stats};
-use crate::engine::moka_engine::{CacheConfig, FixedClock, Instant, Listener, NoExpiry, RemovalCause};
+use crate::proved_tests::moka_drive_tests::answers::is_entry;
+use crate::proved_tests::moka_drive_tests::config::{NOW, Tested, config};
+use crate::proved_tests::moka_drive_tests::makers::{failing, nothing, one_more, taken_out, ten, twenty};
+use crate::proved_tests::moka_drive_tests::saves::{fill_apart, lists, refuses_entries, restores};
+use crate::engine::moka_drive::{Cache, CompResult, Removals, Stats};
+use crate::engine::moka_engine::FixedClock;
 use crate::support::alloc::Global;
-use crate::support::test::process::Abort;
-
-pub const NOW: Instant = Instant(0);
-
-// A cache of numbers by numbers.
-pub type Plain = Cache<u64, u64>;
 
 enum Case {
     SendsAtOnce,
     RunsByItself,
-    MakesOnce,
-    KeepsNothing,
-    AsksMakers,
-    Inserts,
-    AsksMakersOfEntries,
+    MakesValues,
+    InsertsEntries,
     Computes,
-    SelectsToInsert,
-    SelectsToCompute,
-    TakesMany,
+    CountsRemovals,
+    RefusesEntries,
+    IsRestored,
 }
 
-// What is tested of a cache, the most that it keeps, and whether runs come by themselves.
-const CASES: [(Case, &str, Option<u64>, bool); 11] = [
+// What is tested of a cache, and whether runs come by themselves.
+const CASES: [(Case, &str, bool); 8] = [
+    (Case::SendsAtOnce, "operations are sent at once", false),
+    (Case::RunsByItself, "a run comes by itself", true),
     (
-        Case::SendsAtOnce,
-        "operations are sent at once",
-        None,
-        false,
-    ),
-    (Case::RunsByItself, "a run comes by itself", None, true),
-    (
-        Case::MakesOnce,
+        Case::MakesValues,
         "a value is made once, and look-ups are counted",
-        None,
         true,
     ),
     (
-        Case::KeepsNothing,
-        "capacity 0 keeps nothing",
-        Some(0),
-        true,
-    ),
-    (
-        Case::AsksMakers,
-        "makers may give nothing, and may fail",
-        None,
-        true,
-    ),
-    (
-        Case::Inserts,
+        Case::InsertsEntries,
         "an entry is inserted if its key is not there",
-        None,
         true,
     ),
+    (Case::Computes, "what is there is computed", true),
+    (Case::CountsRemovals, "removals are counted", true),
+    (Case::RefusesEntries, "an entry is put back once", true),
     (
-        Case::AsksMakersOfEntries,
-        "makers of entries may give nothing, and may fail",
-        None,
+        Case::IsRestored,
+        "what was saved is put back, in the order of access",
         true,
     ),
-    (Case::Computes, "what is there is computed", None, true),
-    (
-        Case::SelectsToInsert,
-        "a selected key is inserted",
-        None,
-        true,
-    ),
-    (
-        Case::SelectsToCompute,
-        "a selected key is computed",
-        None,
-        true,
-    ),
-    (Case::TakesMany, "many keys are taken at once", None, true),
 ];
 
 #[test]
 fn answers_as_it_should() {
     let rt = HostRuntime;
-    for (case, name, capacity, is_automatic) in &CASES {
-        let mut cache = empty(&rt, rt.alloc(), *capacity, *is_automatic);
+    for (case, name, is_automatic) in &CASES {
+        let Ok(mut engine) = config().build(rt.alloc(), NOW) else {
+            panic!( "memory");
+        };
+        if !*is_automatic {
+            engine.disable_auto_run();
+        }
+        let mut cache = Cache::new(engine);
         assert!( is_right(rt.alloc(), &mut cache, case), "{name}");
     }
 }
 
-fn empty(rt: &impl Abort, alloc: Global, capacity: Option<u64>, is_automatic: bool) -> Plain {
-    let mut config = CacheConfig::default();
-    if let Some(capacity) = capacity {
-        config = config.max_capacity(capacity);
-    }
-    let Ok(mut engine) = config.build(alloc, NOW) else {
-        panic!( "memory");
-    };
-    if !is_automatic {
-        engine.disable_auto_run();
-    }
-    Cache::new(engine)
-}
-
-fn is_right(alloc: Global, cache: &mut Plain, case: &Case) -> bool {
+fn is_right(alloc: Global, cache: &mut Tested, case: &Case) -> bool {
     match case {
         Case::SendsAtOnce => sends_at_once(cache),
         Case::RunsByItself => fill(cache, 65) && waiting(cache) == (0, 1, 64),
-        Case::MakesOnce => makes_once(cache),
-        Case::KeepsNothing => made(cache, 10) == Some((10, true)) && found(cache) == Some(None),
-        Case::AsksMakers => asks_makers(cache),
-        Case::Inserts => entry::inserts(cache),
-        Case::AsksMakersOfEntries => entry::asks_makers(cache),
-        Case::Computes => entry::computes(cache),
-        Case::SelectsToInsert => entry::selects_to_insert(cache),
-        Case::SelectsToCompute => entry::selects_to_compute(cache),
-        Case::TakesMany => entry::takes_many(alloc, cache),
+        Case::MakesValues => makes_values(cache),
+        Case::InsertsEntries => inserts_entries(cache),
+        Case::Computes => computes(cache),
+        Case::CountsRemovals => counts_removals(cache),
+        Case::RefusesEntries => refuses_entries(cache),
+        Case::IsRestored => {
+            fill_apart(cache) && lists(cache) && restores(alloc, cache) && lists(cache)
+        }
     }
 }
 
 // Puts the keys below a number in.
-fn fill(cache: &mut Plain, keys: u64) -> bool {
+fn fill(cache: &mut Tested, keys: u64) -> bool {
     for key in 0..keys {
         if cache.insert(key, key, NOW, &mut FixedClock(NOW)).is_err() {
             return false;
@@ -134,7 +87,7 @@ fn fill(cache: &mut Plain, keys: u64) -> bool {
 }
 
 // How many tickets are outstanding, how many writes are queued, and how many entries are counted.
-fn waiting(cache: &Plain) -> (u64, usize, u64) {
+fn waiting(cache: &Tested) -> (u64, usize, u64) {
     let engine = cache.engine();
     (
         engine.outstanding(),
@@ -143,90 +96,62 @@ fn waiting(cache: &Plain) -> (u64, usize, u64) {
     )
 }
 
-fn sends_at_once(cache: &mut Plain) -> bool {
+fn sends_at_once(cache: &mut Tested) -> bool {
     let is_sent = fill(cache, 400) && waiting(cache) == (0, 16, 384);
     cache.run_pending_tasks(NOW, &mut FixedClock(NOW));
     is_sent && waiting(cache) == (0, 0, 400)
 }
 
-// What a look-up gives that makes a value, and whether its maker was asked.
-fn made(cache: &mut Plain, value: u64) -> Option<(u64, bool)> {
-    let mut is_asked = false;
-    let maker = || {
-        is_asked = true;
-        value
-    };
-    match cache.get_with(1, maker, NOW, &mut FixedClock(NOW)) {
-        Ok(found) => Some((found, is_asked)),
-        Err(_) => None,
-    }
-}
-
-// What a look-up finds of the key 1.
-fn found(cache: &mut Plain) -> Option<Option<u64>> {
-    cache.get(&1, NOW, &mut FixedClock(NOW)).ok()
-}
-
-fn makes_once(cache: &mut Plain) -> bool {
-    let before = found(cache);
-    let (first, second) = (made(cache, 10), made(cache, 20));
-    let counted = Stats {
-        hits: 1,
-        misses: 2,
-        loads: 1,
-    };
-    before == Some(None)
-        && (first, second) == (Some((10, true)), Some((10, false)))
-        && cache.stats() == counted
-}
-
-fn asks_makers(cache: &mut Plain) -> bool {
+// Whether a key has no value after a maker that gives none, and then the first that is made.
+fn makes_values(cache: &mut Tested) -> bool {
     let clock = &mut FixedClock(NOW);
-    let declined = cache.optionally_get_with(1, nothing, NOW, clock);
-    let failed = cache.try_get_with(1, failing, NOW, clock);
-    let is_made_early = cache.contains_key(&1, NOW);
-    let made = cache.try_get_with(1, ten, NOW, clock);
-    let found = cache.optionally_get_with(1, some_twenty, NOW, clock);
-    matches!(declined, Ok(None))
-        && matches!(failed, Ok(Err(7)))
-        && !is_made_early
-        && matches!(made, Ok(Ok(10)))
-        && matches!(found, Ok(Some(10)))
+    let is_declined = matches!(cache.optionally_get_with(1, nothing, NOW, clock), Ok(None));
+    let is_made = matches!(cache.get_with(1, twenty, NOW, clock), Ok(20));
+    let is_found = matches!(cache.try_get_with(1, ten, NOW, clock), Ok(Ok(20)));
+    let Stats {
+        hits,
+        misses,
+        loads,
+    } = cache.stats();
+    is_declined && is_made && is_found && (hits, misses, loads) == (1, 2, 2)
 }
 
-struct Last {
-    told: Option<(u64, u64, RemovalCause)>,
+// Whether a key has no entry after a maker that gives none and one that fails, and then the first that is put.
+fn inserts_entries(cache: &mut Tested) -> bool {
+    let clock = &mut FixedClock(NOW);
+    let declined = cache.get_or_optionally_insert_with(1, nothing, NOW, clock);
+    let is_declined = matches!(declined, Ok(None));
+    let failed = cache.get_or_try_insert_with(1, failing, NOW, clock);
+    let is_failed = matches!(failed, Ok(Err(7)));
+    let put = cache.get_or_insert(1, 10, NOW, clock);
+    let is_put = is_entry(put, (10, true, false));
+    let found = cache.get_or_insert_with(1, twenty, NOW, clock);
+    is_declined && is_failed && is_put && is_entry(found, (10, false, false))
 }
 
-impl Listener<u64, u64> for Last {
-
-    fn notify(&mut self, key: u64, value: u64, cause: RemovalCause) {
-        self.told = Some((key, value, cause));
-    }
-}
-
-// Whether the listener is told of a key that is put in and taken out a nanosecond later.
-fn tells(cache: &mut Cache<u64, u64, NoExpiry, Last>) -> bool {
-    let later = Instant(1);
-    let is_put = cache.insert(1, 10, NOW, &mut FixedClock(NOW)).is_ok();
-    let removed = cache.remove(&1, later, &mut FixedClock(later));
-    let told = match cache.engine().listener() {
-        Some(last) => last.told,
-        None => None,
-    };
+// Whether a value is put, another one in its place, and that one is taken out.
+fn computes(cache: &mut Tested) -> bool {
+    let clock = &mut FixedClock(NOW);
+    let put = cache.upsert_with(1, one_more, NOW, clock);
+    let is_put = is_entry(put, (1, true, false));
+    let replaced = cache.upsert_with(1, one_more, NOW, clock);
+    let is_replaced = is_entry(replaced, (2, true, true));
+    let taken = cache.compute_with(1, taken_out, NOW, clock);
     is_put
-        && matches!(removed, Ok(Some(10)))
-        && told == Some((1, 10, RemovalCause::Explicit))
-        && cache.engine().queued_writes() == 2
+        && is_replaced
+        && matches!(taken, Ok(CompResult::Removed(_)))
+        && !cache.contains_key(&1, NOW)
 }
 
-#[test]
-fn tells_of_a_removal() {
-    let rt = HostRuntime;
-    let config = CacheConfig::default().eviction_listener(Last { told: None });
-    let Ok(mut engine) = config.build::<u64, u64>(rt.alloc(), NOW) else {
-        panic!( "memory");
-    };
-    engine.disable_auto_run();
-    assert!( tells(&mut Cache::new(engine)));
+// Whether removals are counted of two keys that are given two values each, and of which one is taken out.
+fn counts_removals(cache: &mut Tested) -> bool {
+    let are_replaced = fill(cache, 2) && fill(cache, 2);
+    let removed = cache.remove(&1, NOW, &mut FixedClock(NOW));
+    let is_removed = matches!(removed, Ok(Some(1)));
+    let Removals {
+        explicit,
+        replaced,
+        ..
+    } = cache.removals();
+    are_replaced && is_removed && (explicit, replaced) == (1, 2)
 }

@@ -3,9 +3,11 @@
 use crate::support::prelude::*;
 
 #[cfg(test)]
+mod answers;
+#[cfg(test)]
 mod cache;
 #[cfg(test)]
-mod entry;
+mod config;
 #[cfg(test)]
 mod makers;
 #[cfg(test)]
@@ -16,3 +18,5 @@ mod saves;
 mod segments;
 #[cfg(test)]
 mod timed;
+#[cfg(test)]
+mod workload;

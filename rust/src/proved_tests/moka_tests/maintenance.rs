@@ -4,15 +4,16 @@
 use crate::support::prelude::*;
 #[cfg(test)]
 use crate::support::test::prelude::*;
-use crate::proved_tests::moka_tests::equal::assert_equal;
+use crate::proved_tests::moka_tests::cases::assert_none;
 use crate::engine::moka_maintenance::bounds::Bounds;
 use crate::engine::moka_maintenance::sketch::enable_frequency_sketch;
 use crate::engine::moka_parts::policy::{EvictionPolicy, Instant};
 use crate::engine::moka_parts::records::Record;
-use crate::engine::moka_sketch::frequency_sketch::{FrequencySketch, sketch_capacity, table_len_for};
+use crate::engine::moka_sketch::frequency_sketch::FrequencySketch;
 use crate::engine::moka_store::{IndexHash, Store};
 use crate::support::alloc::{AllocError, Global};
 use crate::support::hash::{BuildHasherDefault, FoldHasher};
+use crate::support::test::process::Abort;
 use crate::support::test::test::Fail;
 
 type TestStore = Store<u64, u64, BuildHasherDefault<FoldHasher>>;
@@ -41,23 +42,20 @@ fn store_of(alloc: Global, weight: u32) -> Result<TestStore, AllocError> {
     Ok(store)
 }
 
-/// The length of the sketch in a cache of a capacity of which so much is taken.
-fn length_at(alloc: Global, capacity: u64, taken: u32) -> Result<usize, AllocError> {
-    let store = store_of(alloc, taken)?;
+/// The length of the sketch that comes on at a capacity.
+fn length_at(alloc: Global, store: &TestStore, capacity: u64) -> Result<usize, AllocError> {
     let mut sketch = FrequencySketch::new(alloc)?;
     let bounds = Bounds {
         capacity: Some(capacity),
         policy: EvictionPolicy::TinyLfu,
         has_weigher: false,
     };
-    enable_frequency_sketch(&store, &mut sketch, bounds);
+    enable_frequency_sketch(store, &mut sketch, bounds);
     Ok(sketch.table_len())
 }
 
-/// Half of each capacity is taken. At a capacity of 0 none comes on here; the longest, of 8 GiB, are not made.
-#[test]
-fn has_a_word_for_each_unit_of_capacity() -> Result<(), Fail> {
-    let rt = HostRuntime;
+/// The first capacity at which the sketch has not the length that it should have. At a capacity of 0 none comes on.
+fn wrong_capacity(alloc: Global, store: &TestStore) -> Result<Option<u64>, AllocError> {
     for (capacity, length) in [
         (0, 0),
         (1, 128),
@@ -67,28 +65,30 @@ fn has_a_word_for_each_unit_of_capacity() -> Result<(), Fail> {
         (65_537, 131_072),
         (1_000_000, 1_048_576),
     ] {
-        let found = length_at(rt.alloc(), capacity, u32::try_from(capacity / 2)?)?;
-        assert_equal(&rt, (capacity, found), (capacity, length));
+        if length_at(alloc, store, capacity)? != length {
+            return Ok(Some(capacity));
+        }
     }
-    let longest = 1 << 30;
-    for capacity in [longest - 1, longest, u64::MAX] {
-        let asked = u64::from(sketch_capacity(capacity));
-        assert_equal(
-            &rt,
-            (capacity, table_len_for(asked)),
-            (capacity, longest as usize),
-        );
-    }
+    Ok(None)
+}
+
+/// Whether two sketches are as long as they should be, but for one for which memory is refused, which has 128 words.
+fn are_long(alloc: Global, store: &TestStore) -> Result<bool, AllocError> {
+    let one = length_at(alloc, store, 256)?;
+    let other = length_at(alloc, store, 256)?;
+    Ok(one == 256 && other == 256 || one.max(other) == 256 && one.min(other) == 128)
+}
+
+/// At least half of each capacity is taken.
+fn check(rt: &impl Abort, alloc: Global, store: &TestStore) -> Result<(), AllocError> {
+    assert!( are_long(alloc, store)?);
+    assert_none(rt, wrong_capacity(alloc, store)?);
     Ok(())
 }
 
-// Where memory is refused once, the sketch that it was for has 128 words, unless the store has none, and the other one
-// has all.
 #[test]
-fn has_fewer_words_where_memory_is_refused() {
+fn has_a_word_for_each_unit_of_capacity() -> Result<(), Fail> {
     let rt = HostRuntime;
-    let one = length_at(rt.alloc(), 256, 128).unwrap_or(128);
-    let other = length_at(rt.alloc(), 256, 128).unwrap_or(128);
-    let is_shortened = (one, other) == (128, 256) || (one, other) == (256, 128);
-    assert!( is_shortened || (one, other) == (256, 256));
+    check(&rt, rt.alloc(), &store_of(rt.alloc(), u32::MAX)?)?;
+    Ok(())
 }

@@ -3,17 +3,15 @@
 use crate::support::prelude::*;
 
 #[cfg(test)]
-mod engine;
+mod cases;
 #[cfg(test)]
-mod equal;
+mod engine;
 #[cfg(test)]
 mod index;
 #[cfg(test)]
 mod maintenance;
 #[cfg(test)]
 mod parts;
-#[cfg(test)]
-mod printed;
 #[cfg(test)]
 mod script;
 #[cfg(test)]

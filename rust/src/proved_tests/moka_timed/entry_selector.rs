@@ -14,17 +14,7 @@ use crate::engine::moka_parts::policy::Expiry;
 use crate::support::hash::{BuildHasher, Hash};
 
 /// A key of a cache that owns its clock, of which one entry call is to be made. moka: `OwnedKeyEntrySelector`.
-pub struct TimedEntrySelector<
-    'a,
-    K: Eq + Hash,
-    V,
-    C,
-    X: Expiry<K, V>,
-    L: Listener<K, V>,
-    P: PredicateFn<K, V>,
-    W: Weigher<K, V>,
-    S: BuildHasher,
-> {
+pub struct TimedEntrySelector<'a, K: Eq + Hash, V, C, X: Expiry<K, V>, L, P, W, S: BuildHasher> {
     cache: &'a mut TimedCache<K, V, C, X, L, P, W, S>,
     key: K,
 }

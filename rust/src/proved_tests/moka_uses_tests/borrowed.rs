@@ -3,69 +3,58 @@
 use crate::support::prelude::*;
 #[cfg(test)]
 use crate::support::test::prelude::*;
-use crate::proved_tests::moka_uses_tests::equal::assert_equal;
-use crate::support::anyhow::Result;
 use crate::engine::moka_engine::Instant;
 use crate::proved_tests::moka_timed::ManualClock;
 use crate::proved_tests::moka_uses::borrowed::{Prices, price, set, start};
 use crate::support::alloc::Global;
-use crate::support::test::process::Abort;
 use crate::support::time::Duration;
 
 type TestPrices = Prices<ManualClock>;
 
-/// A price that holds for 100 nanoseconds.
-fn tea_at(alloc: Global, amount: u64) -> Result<TestPrices> {
-    let clock = ManualClock { now: Instant(0) };
-    let mut prices = start(alloc, Duration::from_nanos(100), clock)?;
-    set_tea(alloc, &mut prices, amount)?;
-    Ok(prices)
-}
-
-fn set_tea(alloc: Global, prices: &mut TestPrices, amount: u64) -> Result<()> {
-    let name = crate::support::test::text!("tea")?;
-    Ok(set(prices, name, amount)?)
-}
-
-fn check_found(rt: &impl Abort, prices: &mut TestPrices) -> Result<()> {
-    for (name, found) in [("tea", Some(3)), ("te", None)] {
-        assert_equal(rt, price(prices, name)?, found);
+fn sets_tea(alloc: Global, prices: &mut TestPrices) -> bool {
+    match crate::support::string::from_str(alloc, "tea") {
+        Ok(name) => set(prices, name, 3).is_ok(),
+        Err(_) => false,
     }
-    assert_equal(rt, prices.stats().hits, 1);
-    let hash = prices.hash_of(&"tea");
-    assert!( prices.contains_key_by(&"tea", hash));
+}
+
+// Whether a price is found by its name alone, until it holds no more.
+fn finds_tea(prices: &mut TestPrices) -> bool {
+    let is_found = price(prices, "tea") == Ok(Some(3)) && price(prices, "te") == Ok(None);
     prices.clock.advance(Duration::from_nanos(100));
-    assert_equal(rt, price(prices, "tea")?, None);
-    Ok(())
+    is_found && price(prices, "tea") == Ok(None)
 }
 
-#[test]
-fn finds_a_price_by_a_text() -> Result<()> {
-    let rt = HostRuntime;
-    check_found(&rt, &mut tea_at(rt.alloc(), 3)?)
-}
-
-fn remove_tea(prices: &mut TestPrices) -> Result<Option<u64>> {
+// Whether a price is there by a text, and is taken out by it.
+fn removes_tea(prices: &mut TestPrices) -> bool {
     let hash = prices.hash_of(&"tea");
-    Ok(prices.remove_by(&"tea", hash)?)
+    prices.contains_key_by(&"tea", hash)
+        && matches!(prices.remove_by(&"tea", hash), Ok(Some(3)))
+        && !prices.contains_key_by(&"tea", hash)
 }
 
-fn invalidate_tea(prices: &mut TestPrices) -> Result<()> {
+// Whether a price is hidden by a text.
+fn invalidates_tea(prices: &mut TestPrices) -> bool {
     let hash = prices.hash_of(&"tea");
-    Ok(prices.invalidate_by(&"tea", hash)?)
+    prices.invalidate_by(&"tea", hash).is_ok() && !prices.contains_key_by(&"tea", hash)
 }
 
-fn check_removed(rt: &impl Abort, alloc: Global, prices: &mut TestPrices) -> Result<()> {
-    assert_equal(rt, remove_tea(prices)?, Some(3));
-    assert_equal(rt, price(prices, "tea")?, None);
-    set_tea(alloc, prices, 4)?;
-    invalidate_tea(prices)?;
-    assert_equal(rt, price(prices, "tea")?, None);
-    Ok(())
+fn are_right(alloc: Global, prices: &mut TestPrices) -> bool {
+    sets_tea(alloc, prices)
+        && finds_tea(prices)
+        && sets_tea(alloc, prices)
+        && removes_tea(prices)
+        && sets_tea(alloc, prices)
+        && invalidates_tea(prices)
 }
 
+// A price holds for 100 nanoseconds.
 #[test]
-fn removes_a_price_by_a_text() -> Result<()> {
+fn finds_and_removes_a_price_by_a_text() {
     let rt = HostRuntime;
-    check_removed(&rt, rt.alloc(), &mut tea_at(rt.alloc(), 3)?)
+    let clock = ManualClock { now: Instant(0) };
+    let Ok(mut prices) = start(rt.alloc(), Duration::from_nanos(100), clock) else {
+        panic!( "memory");
+    };
+    assert!( are_right(rt.alloc(), &mut prices));
 }

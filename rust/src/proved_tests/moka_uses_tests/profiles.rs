@@ -3,27 +3,27 @@
 use crate::support::prelude::*;
 #[cfg(test)]
 use crate::support::test::prelude::*;
-use crate::proved_tests::moka_uses_tests::equal::assert_equal;
-use crate::support::anyhow::Result;
+use crate::proved_tests::moka_uses_tests::makers::{ten, twenty};
 use crate::engine::moka_engine::Instant;
 use crate::proved_tests::moka_timed::ManualClock;
 use crate::proved_tests::moka_uses::profiles::{Profiles, profile, start};
-use crate::support::test::process::Abort;
 use crate::support::time::Duration;
 
-fn check(rt: &impl Abort, profiles: &mut Profiles<u64, ManualClock>) -> Result<()> {
-    for (later, made, found) in [(0, 10, 10), (4, 11, 10), (1, 12, 12)] {
-        profiles.clock.advance(Duration::from_secs(later));
-        assert_equal(rt, profile(profiles, 1, || made)?, found);
-    }
-    assert_equal(rt, profiles.removals().expired, 1);
-    Ok(())
+// Whether a profile is read once, and again when it has expired.
+fn reads_twice(profiles: &mut Profiles<u64, ManualClock>) -> bool {
+    let read = profile(profiles, 1, ten);
+    let kept = profile(profiles, 1, twenty);
+    profiles.clock.advance(Duration::from_nanos(100));
+    let again = profile(profiles, 1, twenty);
+    matches!(read, Ok(10)) && matches!(kept, Ok(10)) && matches!(again, Ok(20))
 }
 
 #[test]
-fn reads_again_what_has_expired() -> Result<()> {
+fn reads_again_what_has_expired() {
     let rt = HostRuntime;
     let clock = ManualClock { now: Instant(0) };
-    let mut profiles = start(rt.alloc(), Duration::from_secs(5), clock)?;
-    check(&rt, &mut profiles)
+    let Ok(mut profiles) = start(rt.alloc(), Duration::from_nanos(100), clock) else {
+        panic!( "memory");
+    };
+    assert!( reads_twice(&mut profiles));
 }

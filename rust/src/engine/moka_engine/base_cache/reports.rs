@@ -4,20 +4,10 @@ use crate::support::prelude::*;
 
 use super::BaseCache;
 use crate::engine::moka_parts::calls::Ticket;
-use crate::engine::moka_parts::closures::{PredicateFn, Weigher};
-use crate::engine::moka_parts::notification::Listener;
 use crate::engine::moka_parts::policy::Expiry;
 use crate::support::hash::{BuildHasher, Hash};
 
-impl<
-    K: Eq + Hash,
-    V,
-    S: BuildHasher,
-    X: Expiry<K, V>,
-    L: Listener<K, V>,
-    P: PredicateFn<K, V>,
-    W: Weigher<K, V>,
-> BaseCache<K, V, S, X, L, P, W> {
+impl<K: Eq + Hash, V, S: BuildHasher, X: Expiry<K, V>, L, P, W> BaseCache<K, V, S, X, L, P, W> {
     /// How many operations were handed out and not sent.
     pub fn outstanding(&self) -> u64
     {

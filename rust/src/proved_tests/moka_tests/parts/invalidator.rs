@@ -3,15 +3,12 @@
 use crate::support::prelude::*;
 #[cfg(test)]
 use crate::support::test::prelude::*;
-use crate::proved_tests::moka_tests::equal::assert_equal;
 use crate::engine::moka_parts::closures::PredicateFn;
-use crate::engine::moka_parts::error::PredicateError;
 use crate::engine::moka_parts::invalidator::{IdSource, Invalidator, PredicateId};
 use crate::engine::moka_parts::policy::Instant;
 use crate::engine::moka_parts::record_ref::{self, RecordRef};
 use crate::engine::moka_parts::records::Record;
 use std::cell::Cell;
-use crate::support::test::process::Abort;
 use crate::support::test::test::Fail;
 use crate::support::uuid::Uuid;
 
@@ -69,148 +66,58 @@ fn written(value: u64, written: Instant) -> Record<u8, u64> {
 
 type Registry = Invalidator<IsValue>;
 
-// Whether a predicate covers a record of this value, written then.
-fn covers(registry: &Registry, value: u64, moment: Instant) -> bool {
-    let (front, cold) = record_ref::split(written(value, moment));
-    let record = RecordRef::new(1, &front.hot, front.expiring, &cold);
-    registry.apply_predicates(&record)
-}
-
-// The first predicate that covers a record of this value, written then.
-fn first_covering(registry: &Registry, value: u64, moment: Instant) -> Option<PredicateId> {
-    let (front, cold) = record_ref::split(written(value, moment));
-    let record = RecordRef::new(1, &front.hot, front.expiring, &cold);
-    registry.first_covering(&record)
-}
-
-/// Registers the test for a value at a moment.
-fn register(
-    registry: &mut Registry,
-    value: u64,
-    now: Instant,
-    ids: &mut Repeating,
-) -> Result<PredicateId, Fail> {
-    match registry.register_predicate(IsValue::new(value), now, ids) {
-        Ok(id) => Ok(id),
-        Err(_) => Err("refused".into()),
-    }
-}
-
-/// Three predicates, of which two were registered at the same moment.
-fn register_three(registry: &mut Registry) -> Result<(), Fail> {
+/// Registers tests for three values, of which the last two come at the same moment.
+fn are_registered(registry: &mut Registry) -> bool {
     let mut ids = Repeating {
-        repeats: 0,
+        repeats: 2,
         given: 0,
     };
+    let mut are_registered = registry.is_empty();
     for (value, now) in [(7, Instant(4)), (8, Instant(6)), (7, Instant(6))] {
-        register(registry, value, now, &mut ids)?;
+        let registered = registry.register_predicate(IsValue::new(value), now, &mut ids);
+        are_registered = are_registered && registered.is_ok();
     }
-    Ok(())
+    are_registered && registry.len() == 3
 }
 
-// Whether there is a predicate at a place, which covers a record of this value, written then.
-fn covers_at(registry: &Registry, place: usize, value: u64, moment: Instant) -> bool {
-    if place >= registry.len() {
+/// Whether the first predicate to cover a record of this value, written then, is the one with the identifier, if there
+/// is one, and whether the last predicate covers it.
+fn is_covered(
+    registry: &Registry,
+    (value, moment): (u64, u64),
+    first: Option<u128>,
+    by_last: bool,
+) -> bool {
+    let (front, cold) = record_ref::split(written(value, Instant(moment)));
+    let record = RecordRef::new(1, &front.hot, front.expiring, &cold);
+    registry.apply_predicates(&record) == first.is_some()
+        && registry.first_covering(&record) == first.map(Uuid::from_u128)
+        && registry.len() == 3
+        && registry.covers_at(2, &record) == by_last
+}
+
+/// Whether the first predicate, which is removed, has the identifier, and was asked so often.
+fn is_removed(registry: &mut Registry, id: u128, asked: u32) -> bool {
+    if registry.len() == 0 {
         return false;
     }
-    let (front, cold) = record_ref::split(written(value, moment));
-    let record = RecordRef::new(1, &front.hot, front.expiring, &cold);
-    registry.covers_at(place, &record)
+    let removed = registry.remove(0);
+    removed.id == Uuid::from_u128(id) && removed.predicate.asked.get() == asked
 }
 
-fn check_covered(rt: &impl Abort, registry: &Registry) {
-    assert_equal(rt, registry.len(), 3);
-    for (value, moment, is_covered) in [
-        (7, Instant(4), true),
-        (7, Instant(5), true),
-        (7, Instant(7), false),
-        (8, Instant(5), true),
-        (9, Instant(6), false),
-    ] {
-        let found = covers(registry, value, moment);
-        assert_equal(rt, (value, moment, found), (value, moment, is_covered));
-    }
-    assert!( covers_at(registry, 2, 7, Instant(6)));
-}
-
-/// Removes each predicate, which was asked so often.
-fn check_removed(rt: &impl Abort, registry: &mut Registry) {
-    for (id, asked) in [(2, 1), (3, 3), (4, 3)] {
-        assert!( !registry.is_empty());
-        let registered = registry.remove(0);
-        let found = (registered.id, registered.predicate.asked.get());
-        assert_equal(rt, found, (Uuid::from_u128(id), asked));
-    }
-    assert!( registry.is_empty());
+/// A predicate is asked only of records written no later than it was registered.
+fn are_asked(registry: &mut Registry) -> bool {
+    are_registered(registry)
+        && is_covered(registry, (7, 4), Some(1), true)
+        && is_covered(registry, (7, 5), Some(3), true)
+        && is_covered(registry, (9, 7), None, false)
+        && is_removed(registry, 1, 2)
+        && is_removed(registry, 2, 2)
+        && is_removed(registry, 3, 4)
 }
 
 #[test]
-fn asks_only_what_was_registered_no_earlier() -> Result<(), Fail> {
+fn asks_what_was_registered_no_earlier() {
     let rt = HostRuntime;
-    let mut registry = Invalidator::new(rt.alloc());
-    assert!( registry.is_empty());
-    assert!( !covers(&registry, 7, Instant(0)));
-    register_three(&mut registry)?;
-    check_covered(&rt, &registry);
-    check_removed(&rt, &mut registry);
-    Ok(())
-}
-
-/// Which predicate is the first to cover a record.
-fn check_first(rt: &impl Abort, registry: &Registry) {
-    for (value, moment, id) in [
-        (7, Instant(4), Some(2)),
-        (8, Instant(5), Some(3)),
-        (7, Instant(5), Some(4)),
-        (7, Instant(7), None),
-        (9, Instant(6), None),
-    ] {
-        let found = first_covering(registry, value, moment);
-        let first = id.map(Uuid::from_u128);
-        assert_equal(rt, (value, moment, found), (value, moment, first));
-    }
-}
-
-#[test]
-fn names_the_first_that_covers() -> Result<(), Fail> {
-    let rt = HostRuntime;
-    let mut registry = Invalidator::new(rt.alloc());
-    register_three(&mut registry)?;
-    check_first(&rt, &registry);
-    Ok(())
-}
-
-/// So many identifiers are given again before one that is free.
-fn check_repeats(rt: &impl Abort, registry: &mut Registry) -> Result<(), Fail> {
-    for (repeats, id) in [(1, 1), (999, 2), (998, 3)] {
-        let mut ids = Repeating { repeats, given: 0 };
-        let found = register(registry, id, Instant(1), &mut ids)?;
-        assert_equal(rt, found, Uuid::from_u128(u128::from(id)));
-    }
-    Ok(())
-}
-
-/// The thousandth is given again as well.
-fn check_refused(rt: &impl Abort, registry: &mut Registry) {
-    let mut ids = Repeating {
-        repeats: 1000,
-        given: 0,
-    };
-    match registry.register_predicate(IsValue::new(5), Instant(1), &mut ids) {
-        Ok(_) => panic!( "registered"),
-        Err(refused) => {
-            let back = (refused.error, refused.predicate.value);
-            assert_equal(rt, back, (PredicateError::NoFreeId, 5));
-        }
-    }
-    assert_equal(rt, (ids.given, registry.len()), (1000, 3));
-}
-
-#[test]
-fn asks_for_1000_identifiers() -> Result<(), Fail> {
-    let rt = HostRuntime;
-    let mut registry = Invalidator::new(rt.alloc());
-    check_repeats(&rt, &mut registry)?;
-    check_refused(&rt, &mut registry);
-    Ok(())
+    assert!( are_asked(&mut Invalidator::new(rt.alloc())));
 }

@@ -22,9 +22,7 @@ impl IdSource for OneId {
     }
 }
 
-#[test]
 fn hold_of_states() {
-    let rt = HostRuntime;
     gets_what_is_contained::<u8, char, NoExpiry, NoPredicate, NoWeigher>();
     removes_just_one::<u8, char, NoExpiry, NoPredicate, NoWeigher>();
     peeks_quietly::<u8, char, NoExpiry, NoPredicate, NoWeigher>();
@@ -40,9 +38,7 @@ fn hold_of_states() {
     sends_after_run::<u8, char, NoExpiry, NoPredicate, NoWeigher>();
 }
 
-#[test]
 fn hold_of_lists_of_calls() {
-    let rt = HostRuntime;
     stays_hidden::<u8, char, NoExpiry, NoListener, NoPredicate, NoWeigher, FixedClock, OneId>();
     stays_valid::<u8, char, NoExpiry, NoListener, NoPredicate, NoWeigher, FixedClock, OneId>();
     stays_in_order::<u8, char, NoExpiry, NoListener, NoPredicate, NoWeigher, FixedClock, OneId>();
@@ -90,4 +86,11 @@ fn hold_of_lists_of_calls() {
         FixedClock,
         OneId,
     >();
+}
+
+#[test]
+fn hold() {
+    let rt = HostRuntime;
+    hold_of_states();
+    hold_of_lists_of_calls();
 }
