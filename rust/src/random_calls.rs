@@ -1,6 +1,6 @@
 //! Random calls of the generated synchronous cache, whole and in segments, beside a plain map.
 
-use crate::engine::moka_drive::{Cache, CompResult, Op};
+use crate::engine::moka_cache::{Cache, CompResult, Op};
 use crate::engine::moka_engine::{
     CacheConfig, EvictionPolicy, FixedClock, IdSource, Instant, NoExpiry, NoListener, PredicateFn, PredicateId,
 };

@@ -10,7 +10,7 @@
 //! - The clock. If nothing can expire no call need read it, so this is not the cache that owns its clock.
 //! - Scans. Its `iter` hands out all entries at once; here a lock is held for one at a time, so its engine makes them.
 
-use crate::engine::moka_drive;
+use crate::engine::moka_cache;
 use crate::engine::moka_engine::{
     BaseCache, Clock, ExpirationPolicy, HousekeeperConfig, IdSource, Instant, PredicateId,
 };
@@ -23,7 +23,7 @@ use crate::settings::{Settings, Testing, Tests, Weighing};
 use crate::support::alloc::Global;
 use crate::support::uuid::Uuid;
 use crate::{Entry, RemovalCause, Stats};
-use moka_drive::{CountingListener, NotTold};
+use moka_cache::{CountingListener, NotTold};
 use std::convert::Infallible;
 use std::hash::Hash;
 use std::mem;
@@ -34,7 +34,7 @@ use std::time::Duration;
 // The listener is there always, since it counts.
 type Told<K, V> = CountingListener<Teller<K, V>>;
 type Cache<K, V> =
-    moka_drive::Cache<Key<'static, K>, V, Asked<K, V>, Told<K, V>, Testing<K, V>, Weighing<K, V>, Carried>;
+    moka_cache::Cache<Key<'static, K>, V, Asked<K, V>, Told<K, V>, Testing<K, V>, Weighing<K, V>, Carried>;
 
 // If no entry can expire the clock is read once in so many calls: a moment then says only when a run is due, and a
 // reading makes an insert a quarter to a half dearer.

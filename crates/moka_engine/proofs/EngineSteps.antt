@@ -1,5 +1,5 @@
 -- A cache whose inner part changed: its state, what always holds of it, and what nobody was told.
-use Rattle.std.proofs.Common.{◌≡◌, refl, ℕ, ◌<◌, Bool, List, [], inl, inr, Option, Some, None, is_some, ap, sym, subst, ◌∙◌}
+use Rattle.std.proofs.Common.{◌≡◌, refl, ℕ, ◌<◌, Bool, List, inl, inr, Option, Some, None, is_some, ap, sym, subst, ◌∙◌}
 use Rattle.std.specs.Cmp.{IsEquivalence}
 use Rattle.std.specs.FinMap.{get, insert, remove}
 use Rattle.moka_parts.specs.declared.notification.RemovalCause.{RemovalCause}
@@ -16,6 +16,7 @@ use Rattle.moka_store.proofs.Gets.{after_insert, after_remove}
 use Rattle.moka_engine.specs.BaseCache.{IsCache, IsStocked, NoneExpires, IsWhole}
 use Rattle.moka_engine.proofs.Stocked.{stocked-roomier}
 use Rattle.moka_inner.specs.Interior.{Interior}
+use Rattle.moka_engine.proofs.Quiet.{nothing_heard}
 
 -- the state with this inner part
 abbrev pub with_inner : {K V X P W S : Type 0} → State K V X P W → Interior K V S → State K V X P W
@@ -40,21 +41,12 @@ inside-roomier s i j inside same = ap (with_inner s) same ∙ inside
 -- ---- the listener
 
 module _ {K V L : Type 0} (tells : L → K → V → RemovalCause → L → Type 0) where
-  -- who is told nothing stays the same
-  pub nothing_heard : (l : Option L) → Heard tells l [] l
-  nothing_heard None = refl
-  nothing_heard (Some l) = refl
-
   -- a listener stays set
   pub still_set : (l m : Option L) (ns : List (Notice K V)) → Heard tells l ns m → is_some m ≡ is_some l
   still_set None None ns h = refl
   still_set (Some l) (Some m) ns h = refl
   still_set None (Some m) ns h = absurd h
   still_set (Some l) None ns h = absurd h
-
--- where nothing happens, nobody is told
-pub befalls-nothing : {K V S X L P W : Type 0} (tells : L → K → V → RemovalCause → L → Type 0) (c : Engine K V S X L P W) → Befalls tells no_events c c
-befalls-nothing tells c = record { kept = refl; heard = nothing_heard tells c.listener; passes = refl; listed = λ none. refl }
 
 module _ {K V S X L P W : Type 0} (c : Engine K V S X L P W) (i j : Interior K V S) (held : cache_with c i ≡ c) (same : order_and_hasher j.kept ≡ order_and_hasher i.kept) where
   -- a change of the inner part that keeps both changes state and room alone

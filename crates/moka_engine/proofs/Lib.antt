@@ -1,3 +1,5 @@
+pub mod Alike
+pub mod Quiet
 pub mod Stocked
 pub mod EngineSteps
 pub mod NewSteps

@@ -1,13 +1,13 @@
 //! The caches that a trace is played through, and what comes of it.
 ghost use Rattle.std.specs.Prelude.{◌≡◌, length, vec_len, IfOk};
 
-use crate::fifo::Fifo;
-use crate::optimum;
 use crate::read_through::ReadThrough;
-use crate::row::Row;
-use crate::tally::Tally;
 use anyhow::Result;
 use moka_engine::{EvictionPolicy, OutOfMemory};
+use moka_traces::fifo::Fifo;
+use moka_traces::optimum;
+use moka_traces::row::Row;
+use moka_traces::tally::Tally;
 use std::alloc::Global;
 
 /// The caches of a capacity.

@@ -50,7 +50,8 @@ pub fn apply_reads<K: Eq + Hash, V, S: BuildHasher>(
     sketch: &mut FrequencySketch,
     reads: &mut HeapCircularBuffer<QueuedRead>,
 )
-    requires { (q : QueuedRead) → Contains reads.old.items q → IsReadAt store.old.places q.place (read_of q) }
+    requires located { (q : QueuedRead) → Contains reads.old.items q →
+        IsReadAt store.old.places q.place (read_of q) }
     ensures applied { contents_with sketch.new store.new ≡ after_reads (contents_with sketch.old store.old)
         (reads_of reads.old.items) }
     ensures served { Serves (IsRenewedBy reads.old.items) store.old store.new }
@@ -82,7 +83,7 @@ fn apply_all_reads<K: Eq + Hash, V, S: BuildHasher>(
     store: &mut Store<K, V, S>,
     reads: &[QueuedRead],
 )
-    requires { (q : QueuedRead) → Contains reads.now q → IsReadAt store.old.places q.place (read_of q) }
+    requires located { (q : QueuedRead) → Contains reads.now q → IsReadAt store.old.places q.place (read_of q) }
     ensures { AppliesReads reads.now store.old store.new }
 {
     let few = if store.is_far() {
@@ -118,7 +119,7 @@ fn apply_each_read<K: Eq + Hash, V, S: BuildHasher>(
     store: &mut Store<K, V, S>,
     reads: &[QueuedRead],
 )
-    requires { (q : QueuedRead) → Contains reads.now q → IsReadAt store.old.places q.place (read_of q) }
+    requires located { (q : QueuedRead) → Contains reads.now q → IsReadAt store.old.places q.place (read_of q) }
     ensures { AppliesReads reads.now store.old store.new }
 {
     for read in reads {
@@ -154,7 +155,7 @@ pub fn apply_writes<K: Eq + Hash + Drop, V: Drop, S: BuildHasher, L: Listener<K,
     bounds: Bounds,
     writes: &mut HeapCircularBuffer<QueuedWrite>,
 )
-    requires { (q : QueuedWrite) → Contains writes.old.items q →
+    requires located { (q : QueuedWrite) → Contains writes.old.items q →
         IsAt store.old.places (number_of q.write.operation) q.write.place }
     ensures applied { AppliesWrites L.tells bounds sketch.now store.old store.new (writes_of writes.old.items)
         notifier.old notifier.new }
@@ -174,7 +175,7 @@ fn apply_each_write<K: Eq + Hash + Drop, V: Drop, S: BuildHasher, L: Listener<K,
     bounds: Bounds,
     writes: &[QueuedWrite],
 )
-    requires { (q : QueuedWrite) → Contains writes.now q →
+    requires located { (q : QueuedWrite) → Contains writes.now q →
         IsAt store.old.places (number_of q.write.operation) q.write.place }
     ensures { AppliesWrites L.tells bounds sketch.now store.old store.new (writes_of writes.now)
         notifier.old notifier.new }
@@ -297,7 +298,7 @@ fn compare<K: Eq + Hash + Drop, V: Drop, S: BuildHasher, L: Listener<K, V>>(
 // The record has seen the operation, and enters both orders with its timer.
 #[inline(always)]
 fn enter<K: Eq + Hash, V, S: BuildHasher>(store: &mut Store<K, V, S>, upsert: PlacedUpsert)
-    requires { IsOutside store.old upsert.handle }
+    requires outside { IsOutside store.old upsert.handle }
     ensures step { (r : Record K V) → finite.get store.old.records upsert.handle.number ≡ Some r →
         contents_in store.new ≡ entered upsert.handle.number upsert.generation upsert.weight r (contents_in store.old) }
     ensures written { store.new.written ≡ entered_by store.old.ordered upsert.handle.number store.old.written }
@@ -316,7 +317,7 @@ fn reject<K: Eq + Hash + Drop, V: Drop, S: BuildHasher, L: Listener<K, V>>(
     handle: Handle,
     generation: u64,
 )
-    requires { IsOutside store.old handle }
+    requires outside { IsOutside store.old handle }
     ensures step { (r : Record K V) → finite.get store.old.records handle.number ≡ Some r
         → contents_in store.new ≡ rejected handle.number generation r (contents_in store.old) }
     ensures told { (r : Record K V) → finite.get store.old.records handle.number ≡ Some r
@@ -360,7 +361,7 @@ fn move_after_read<K: Eq + Hash, V, S: BuildHasher>(
     handle: Handle,
     renewed: bool,
 )
-    requires { IsHandle store.old handle }
+    requires handle { IsHandle store.old handle }
     ensures access { store.new.access ≡ to_back handle.number store.old.access }
     ensures served { Serves (λ n. (n ≡ handle.number) × (renewed ≡ true)) store.old store.new }
 {

@@ -1,8 +1,8 @@
 -- What all segments list.
 use Rattle.std.specs.Prelude.{◌≡◌, ℕ, Bool, List, [], ◌∷◌, ◌++◌}
 use Rattle.moka_parts.specs.Copies.{ClonesAreEqual}
-use Rattle.moka_drive.specs.Synchronous.{Synchronous}
-use Rattle.moka_drive.specs.Visible.{ListsVisible, LooksUpClones}
+use Rattle.moka_cache.specs.Synchronous.{Synchronous}
+use Rattle.moka_cache.specs.Visible.{ListsVisible, LooksUpClones}
 
 -- a list of each element, one after the other
 abbrev pub AllListed : {A B : Type 0} → (A → List B → Type 0) → List A → List B → Type 0

@@ -1,6 +1,6 @@
 -- Synchronous caches side by side, and what a call makes of one of them.
 use Rattle.std.specs.Prelude.{◌≡◌, ℕ, ◌<◌, List, length, slice_index_or, slice_set}
-use Rattle.moka_drive.specs.Synchronous.{Synchronous}
+use Rattle.moka_cache.specs.Synchronous.{Synchronous}
 use Rattle.moka_segments.specs.Routing.{Routing}
 
 -- the segments, and which keys are whose
@@ -33,3 +33,7 @@ pub record Holds {A : Type 0} (index : ℕ) (Is : A → Type 0) (xs : List A) : 
   pub one : A
   pub there : IsAt xs index one
   pub is : Is one
+
+-- this is so of the element at the index, if there is one
+pub record HoldsIfThere {A : Type 0} (index : ℕ) (Is : A → Type 0) (xs : List A) : Type 0 where
+  pub at : (x : A) → IsAt xs index x → Is x

@@ -5,7 +5,7 @@ ghost use Rattle.moka_segments.specs.Keys.{HoldNone};
 
 use crate::router::Router;
 use crate::segmented::SegmentedCache;
-use moka_drive::Cache;
+use moka_cache::Cache;
 use moka_engine::config::{CacheConfig, DefaultHasher};
 use moka_parts::closures::{PredicateFn, Weigher};
 use moka_parts::error::OutOfMemory;

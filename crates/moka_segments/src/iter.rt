@@ -4,7 +4,7 @@ ghost use Rattle.std.specs.Vec.Iter.{into_iter_items};
 ghost use Rattle.moka_segments.specs.Listing.{AllListed, ListsOwn};
 
 use crate::segmented::SegmentedCache;
-use moka_drive::Cache;
+use moka_cache::Cache;
 use moka_parts::closures::{PredicateFn, Weigher};
 use moka_parts::error::OutOfMemory;
 use moka_parts::notification::Listener;

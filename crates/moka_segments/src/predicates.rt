@@ -4,7 +4,7 @@ ghost use Rattle.uuid.specs.declared.Uuid.{Uuid};
 ghost use Rattle.moka_segments.specs.Registering.{AllRegister, ids_given, outcome};
 
 use crate::segmented::SegmentedCache;
-use moka_drive::Cache;
+use moka_cache::Cache;
 use moka_parts::closures::{PredicateFn, Weigher};
 use moka_parts::error::{PredicateError, PredicateRefused};
 use moka_parts::invalidator::{IdSource, PredicateId};

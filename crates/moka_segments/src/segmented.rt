@@ -2,13 +2,13 @@
 ghost use Rattle.std.specs.Prelude.{◌≡◌, ◌<◌, false, length, IfErr};
 ghost use Rattle.moka_parts.specs.Calls.{ContainsStep};
 ghost use Rattle.moka_parts.specs.Hashing.{key_hash};
-ghost use Rattle.moka_drive.specs.Synchronous.{Synchronous, meaning_of, removed, invalidated};
+ghost use Rattle.moka_cache.specs.Synchronous.{meaning_of, removed, invalidated};
 ghost use Rattle.moka_segments.specs.Routing.{segment_of};
-ghost use Rattle.moka_segments.specs.Segmented.{Holds, IsAt, Steps as StepsIn};
+ghost use Rattle.moka_segments.specs.Segmented.{Holds, HoldsIfThere, IsAt, Steps as StepsIn};
 ghost use Rattle.moka_segments.specs.Steps.{Inserts, Gets, Removes, GetsWith, GetsWithIfMade, GetsWithIfNoError};
 
 use crate::router::Router;
-use moka_drive::{Cache, GetWithRefused, NotTold};
+use moka_cache::{Cache, GetWithRefused, NotTold};
 use moka_engine::config::DefaultHasher;
 use moka_parts::closures::{NoPredicate, NoWeigher, PredicateFn, Weigher};
 use moka_parts::error::{InsertRefused, OutOfMemory};
@@ -255,10 +255,9 @@ impl<
         K: Clone + Drop,
         V: Clone + Drop,
         P: Drop,
-        requires callable { (s : Synchronous K V S X L P W)
-            → IsAt self.old.segments (segment_of self.old.routing.count
-            (key_hash S.BuildHasher S.Hasher.Hasher self.old.routing.hasher (K.hash_input key))) s
-            → ContainsStep P.says K.eq s.engine.state key now.0 false → F.pre init }
+        requires callable { HoldsIfThere (segment_of self.old.routing.count
+            (key_hash S.BuildHasher S.Hasher.Hasher self.old.routing.hasher (K.hash_input key)))
+            (λ s. ContainsStep P.says K.eq s.engine.state key now.0 false → F.pre init) self.old.segments }
         ensures { StepsIn (segment_of self.old.routing.count
             (key_hash S.BuildHasher S.Hasher.Hasher self.old.routing.hasher (K.hash_input key)))
             (GetsWith (meaning_of K.eq L.tells P.says W.weighs C.reads X.created X.read X.updated)
@@ -285,10 +284,9 @@ impl<
         K: Clone + Drop,
         V: Clone + Drop,
         P: Drop,
-        requires callable { (s : Synchronous K V S X L P W)
-            → IsAt self.old.segments (segment_of self.old.routing.count
-            (key_hash S.BuildHasher S.Hasher.Hasher self.old.routing.hasher (K.hash_input key))) s
-            → ContainsStep P.says K.eq s.engine.state key now.0 false → F.pre init }
+        requires callable { HoldsIfThere (segment_of self.old.routing.count
+            (key_hash S.BuildHasher S.Hasher.Hasher self.old.routing.hasher (K.hash_input key)))
+            (λ s. ContainsStep P.says K.eq s.engine.state key now.0 false → F.pre init) self.old.segments }
         ensures { StepsIn (segment_of self.old.routing.count
             (key_hash S.BuildHasher S.Hasher.Hasher self.old.routing.hasher (K.hash_input key)))
             (GetsWithIfMade (meaning_of K.eq L.tells P.says W.weighs C.reads X.created X.read X.updated)
@@ -315,10 +313,9 @@ impl<
         K: Clone + Drop,
         V: Clone + Drop,
         P: Drop,
-        requires callable { (s : Synchronous K V S X L P W)
-            → IsAt self.old.segments (segment_of self.old.routing.count
-            (key_hash S.BuildHasher S.Hasher.Hasher self.old.routing.hasher (K.hash_input key))) s
-            → ContainsStep P.says K.eq s.engine.state key now.0 false → F.pre init }
+        requires callable { HoldsIfThere (segment_of self.old.routing.count
+            (key_hash S.BuildHasher S.Hasher.Hasher self.old.routing.hasher (K.hash_input key)))
+            (λ s. ContainsStep P.says K.eq s.engine.state key now.0 false → F.pre init) self.old.segments }
         ensures { StepsIn (segment_of self.old.routing.count
             (key_hash S.BuildHasher S.Hasher.Hasher self.old.routing.hasher (K.hash_input key)))
             (GetsWithIfNoError (meaning_of K.eq L.tells P.says W.weighs C.reads X.created X.read X.updated)

@@ -2,12 +2,12 @@
 ghost use Rattle.std.specs.Prelude.{◌≡◌, option_copied};
 ghost use Rattle.std.specs.List.{AllZip};
 ghost use Rattle.moka_parts.specs.State.{limits_of};
-ghost use Rattle.moka_drive.specs.Synchronous.{meaning_of};
+ghost use Rattle.moka_cache.specs.Synchronous.{meaning_of};
 ghost use Rattle.moka_segments.specs.Segmented.{Holds};
 ghost use Rattle.moka_segments.specs.Whole.{AllRan, Hides, IsWithinWhole, both, both_stats, saturated, total, total_stats, whole_capacity};
 
 use crate::segmented::SegmentedCache;
-use moka_drive::{Cache, Stats};
+use moka_cache::{Cache, Stats};
 use moka_parts::closures::{PredicateFn, Weigher};
 use moka_parts::housekeeper::Clock;
 use moka_parts::notification::Listener;

@@ -8,6 +8,7 @@ pub mod Members
 pub mod Nodes
 pub mod Orders
 pub mod Places
+pub mod Reserving
 pub mod RowCalls
 pub mod Slots
 pub mod Steps

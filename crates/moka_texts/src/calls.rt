@@ -1,7 +1,7 @@
 //! The calls that are made with one text, which of its texts each is handed, and what it is to answer.
 use crate::notes::Words;
 use crate::report::{Refused, looked_up};
-use moka_drive::{GetWithRefused, NotTold, Stats};
+use moka_cache::{GetWithRefused, NotTold, Stats};
 use moka_engine::InsertRefused;
 
 /// What is asked of a cache.

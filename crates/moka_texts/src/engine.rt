@@ -1,7 +1,7 @@
 //! The calls of the engine, made with one text after the other.
 use crate::notes::{Notes, Words};
 use crate::report::{Refused, Round, Texts, Told, or_refused, told_of};
-use moka_drive::Stats;
+use moka_cache::Stats;
 use moka_engine::{
     Entry, IdSource, KvEntry, NoPredicate, NoTest, OutOfMemory, PredicateError, PredicateId, Ticket,
 };

@@ -3,7 +3,7 @@ use crate::calls::{Ask, Call};
 use crate::notes::{Notes, Words};
 use crate::report::{Refused, Round, looked_up};
 use crate::synchronous::{Cached, contains, is_made, is_taken_out, run};
-use moka_drive::{CacheEntry, CompResult, ComputeRefused, GetWithRefused, Op};
+use moka_cache::{CacheEntry, CompResult, ComputeRefused, GetWithRefused, Op};
 
 /// The value that was handed out, if there is one.
 type Found = Result<Option<String>, GetWithRefused<String, String>>;

@@ -17,7 +17,7 @@ use crate::in_segments::Segmented;
 use crate::notes::{Notes, Words};
 use crate::report::{Report, Round, Texts};
 use crate::synchronous::Cached;
-use moka_drive::Cache;
+use moka_cache::Cache;
 use moka_engine::{
     CacheConfig, EvictionPolicy, Instant, NoExpiry, NoPredicate, NoWeigher, OutOfMemory,
 };

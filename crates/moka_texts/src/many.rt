@@ -3,7 +3,7 @@ use crate::calls::{Ask, Call};
 use crate::notes::{Notes, Words};
 use crate::report::{Left, Refused, Round};
 use crate::synchronous::{Cached, is_right, run, told_by};
-use moka_drive::{InsertManyRefused, InvalidateManyRefused, Stats};
+use moka_cache::{InsertManyRefused, InvalidateManyRefused, Stats};
 
 /// How many texts each call is made with.
 const COUNT: u64 = 3;

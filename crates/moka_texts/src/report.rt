@@ -1,5 +1,5 @@
 //! What a cache tells of itself, and its listener of it.
-use moka_drive::Stats;
+use moka_cache::Stats;
 use moka_engine::{Engine, Listener, NoExpiry, NoPredicate, OutOfMemory, RemovalCause, Ticket};
 
 /// Counts the notices, and the bytes of their keys and values.

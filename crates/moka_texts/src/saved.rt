@@ -2,7 +2,7 @@
 use crate::calls::{Ask, Call};
 use crate::notes::{Notes, Words};
 use crate::synchronous::{Cached, is_made};
-use moka_drive::RestoreManyRefused;
+use moka_cache::RestoreManyRefused;
 use moka_engine::{Instant, OutOfMemory, Restored};
 
 /// How many texts are saved.

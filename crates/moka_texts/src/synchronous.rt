@@ -4,7 +4,7 @@ use crate::engine::Ids;
 use crate::entries::{compute, hand_out};
 use crate::notes::{Notes, Words};
 use crate::report::{Left, Refused, Report, Round, Told, told_of};
-use moka_drive::Cache;
+use moka_cache::Cache;
 use moka_engine::{NoExpiry, NoPredicate};
 
 /// A synchronous cache of texts by texts.

@@ -2,17 +2,17 @@
 ghost use Rattle.std.specs.Prelude.{◌≡◌, false, Option, Result, option_copied};
 ghost use Rattle.moka_parts.specs.Calls.{ContainsStep};
 ghost use Rattle.moka_parts.specs.declared.error.InsertRefused.{InsertRefused};
-ghost use Rattle.moka_drive.specs.Computing.{AndUpserts, AndComputes};
-ghost use Rattle.moka_drive.specs.Entries.{OrInserts, OrInsertsMade, OrInsertsIfMade, OrInsertsIfNoError};
-ghost use Rattle.moka_drive.specs.Given.{Sees};
+ghost use Rattle.moka_cache.specs.Computing.{AndUpserts, AndComputes};
+ghost use Rattle.moka_cache.specs.Entries.{OrInserts, OrInsertsMade, OrInsertsIfMade, OrInsertsIfNoError};
+ghost use Rattle.moka_cache.specs.Given.{Sees};
 ghost use Rattle.moka_parts.specs.Hashing.{key_hash};
 ghost use Rattle.moka_timed.specs.Moments.{AtItsMoment, AtAnyMoment};
-ghost use Rattle.moka_drive.specs.Synchronous.{meaning_of, hears_clones};
+ghost use Rattle.moka_cache.specs.Synchronous.{meaning_of, hears_clones};
 
 use crate::cache::TimedCache;
-use moka_drive::compute::{CompResult, ComputeRefused, Op};
-use moka_drive::entry::CacheEntry;
-use moka_drive::error::GetWithRefused;
+use moka_cache::compute::{CompResult, ComputeRefused, Op};
+use moka_cache::entry::CacheEntry;
+use moka_cache::error::GetWithRefused;
 use moka_parts::closures::{PredicateFn, Weigher};
 use moka_parts::error::InsertRefused;
 use moka_parts::housekeeper::Clock;

@@ -3,7 +3,7 @@ ghost use Rattle.std.specs.Prelude.{◌≡◌, IfOk};
 ghost use Rattle.std.specs.Vec.Iter.{into_iter_items};
 ghost use Rattle.moka_parts.specs.Copies.{ClonesAreEqual};
 ghost use Rattle.moka_timed.specs.Moments.{AtItsOnlyMoment};
-ghost use Rattle.moka_drive.specs.Visible.{ListsVisible, LooksUpClones};
+ghost use Rattle.moka_cache.specs.Visible.{ListsVisible, LooksUpClones};
 
 use crate::cache::TimedCache;
 use moka_parts::closures::{PredicateFn, Weigher};

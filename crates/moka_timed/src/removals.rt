@@ -1,9 +1,9 @@
 //! Removals counted by their causes.
 ghost use Rattle.std.specs.Prelude.{◌≡◌};
-ghost use Rattle.moka_drive.specs.Removed.{removals_of};
+ghost use Rattle.moka_cache.specs.Removed.{removals_of};
 
 use crate::cache::TimedCache;
-use moka_drive::removals::{CountingListener, Removals};
+use moka_cache::removals::{CountingListener, Removals};
 use moka_parts::closures::{PredicateFn, Weigher};
 use moka_parts::notification::Listener;
 use moka_parts::policy::Expiry;

@@ -6,13 +6,13 @@ ghost use Rattle.moka_parts.specs.declared.calls.Reply.TheVariants as reply;
 ghost use Rattle.moka_engine.specs.Snapshots.{scene_of};
 ghost use Rattle.moka_engine.specs.declared.base_cache.restores.Restored.{Restored};
 ghost use Rattle.moka_parts.specs.Hashing.{key_hash};
-ghost use Rattle.moka_drive.specs.Saved.{AddsOnly, HasOnlyMembers, AreSaved, AreThere, IsRestored, PutsBack, PutsManyBack, TakesOnlyExpired};
+ghost use Rattle.moka_cache.specs.Saved.{AddsOnly, HasOnlyMembers, AreSaved, AreThere, IsRestored, PutsBack, PutsManyBack, TakesOnlyExpired};
 ghost use Rattle.moka_timed.specs.Moments.{AtItsMoment};
-ghost use Rattle.moka_drive.specs.Synchronous.{Just, Makes, meaning_of, own_run};
-ghost use Rattle.moka_drive.specs.Unsent.{HidesNoMore};
+ghost use Rattle.moka_cache.specs.Synchronous.{Just, Makes, meaning_of, own_run};
+ghost use Rattle.moka_cache.specs.Unsent.{HidesNoMore};
 
 use crate::cache::TimedCache;
-use moka_drive::cache::RestoreManyRefused;
+use moka_cache::cache::RestoreManyRefused;
 use moka_engine::base_cache::{RestoreRefused, Restored};
 use moka_parts::closures::{PredicateFn, Weigher};
 use moka_parts::error::OutOfMemory;

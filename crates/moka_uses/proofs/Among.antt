@@ -8,8 +8,8 @@ use Rattle.moka_engine.specs.Records.{Records}
 use Rattle.moka_engine.specs.State.{State, Settings}
 use Rattle.moka_engine.specs.declared.base_cache.restores.Restored.{Restored}
 use Rattle.moka_engine.proofs.Maps.{nothing_at}
-use Rattle.moka_drive.specs.Saved.{AddsOnly, IsOfItem, IsRestored, WeighAtMost, has_expired}
-use Rattle.moka_drive.specs.Unsent.{HidesNoMore}
+use Rattle.moka_cache.specs.Saved.{AddsOnly, IsOfItem, IsRestored, WeighAtMost, has_expired}
+use Rattle.moka_cache.specs.Unsent.{HidesNoMore}
 use Rattle.moka_uses.specs.Restarted.{AreAmong, AreBack, ArePutBack}
 
 pub among_all : {X P W : Type 0} (s t : State ℕ ℕ X P W) (saved : List (Restored ℕ ℕ)) → s.records ≡ empty → AddsOnly saved s t → AreAmong t saved

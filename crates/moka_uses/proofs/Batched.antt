@@ -7,11 +7,11 @@ use Rattle.std.specs.declared.vec.Vec.{Vec}
 use Rattle.moka_engine.specs.parts.Instant.{Instant}
 use Rattle.moka_engine.specs.Runs.{Engine}
 use Rattle.moka_engine.specs.State.{Meaning}
-use Rattle.moka_drive.specs.declared.many.GetManyRefused.{GetManyRefused}
-use Rattle.moka_drive.specs.declared.many.InsertManyRefused.{InsertManyRefused}
-use Rattle.moka_drive.specs.declared.many.InvalidateManyRefused.{InvalidateManyRefused}
-use Rattle.moka_drive.specs.Many.{GetsMany, InsertsMany, InvalidatesMany}
-use Rattle.moka_drive.specs.Synchronous.{Makes}
+use Rattle.moka_cache.specs.declared.many.GetManyRefused.{GetManyRefused}
+use Rattle.moka_cache.specs.declared.many.InsertManyRefused.{InsertManyRefused}
+use Rattle.moka_cache.specs.declared.many.InvalidateManyRefused.{InvalidateManyRefused}
+use Rattle.moka_cache.specs.Many.{GetsMany, InsertsMany, InvalidatesMany}
+use Rattle.moka_cache.specs.Synchronous.{Makes}
 
 same_length : {A B : Type 0} (pairs : List (A × B)) → length (map (λ p. p.1) pairs) ≡ length (map (λ p. p.0) pairs)
 same_length [] = refl

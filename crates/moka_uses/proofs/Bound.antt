@@ -1,6 +1,6 @@
 -- What the segments of a cache keep together.
 use Rattle.std.proofs.Common.{◌≡◌, ◌≤◌, ℕ, List, Option, Some, None, IfSome, arith}
-use Rattle.moka_drive.specs.Synchronous.{Synchronous}
+use Rattle.moka_cache.specs.Synchronous.{Synchronous}
 use Rattle.moka_segments.specs.Whole.{IsWithinWhole, saturated, total}
 
 module _ {K V S X L P W : Type 0} where

@@ -6,7 +6,7 @@ use Rattle.moka_engine.specs.parts.Instant.{Instant}
 use Rattle.moka_engine.specs.parts.Ticket.{Ticket}
 use Rattle.moka_engine.specs.Calls.{InsertStep}
 use Rattle.moka_engine.specs.State.{State, Events}
-use Rattle.moka_drive.proofs.Waiting.{insert_hands_back}
+use Rattle.moka_cache.proofs.Waiting.{insert_hands_back}
 
 module _ {K V X P W : Type 0} (created : X → K → V → ℕ → Option ℕ) (updated : X → K → V → ℕ → Option ℕ → Option ℕ) (weighs : W → K → V → ℕ → Type 0) (eq : K → K → Bool) (s : State K V X P W) (key : K) (hash : ℕ) (value : V) (now : Instant) (e : Events K V) (t : State K V X P W) where
   -- key and value come back, and nothing has changed

@@ -7,10 +7,10 @@ use Rattle.moka_engine.specs.parts.Ticket.{Ticket}
 use Rattle.moka_engine.specs.Runs.{Engine}
 use Rattle.moka_engine.specs.State.{Meaning}
 use Rattle.moka_engine.specs.declared.base_cache.restores.Restored.{Restored}
-use Rattle.moka_drive.specs.Limits.{SetNoCapacity}
-use Rattle.moka_drive.specs.Saved.{PutsAllBack, PutsBack}
-use Rattle.moka_drive.specs.Synchronous.{Posts}
-use Rattle.moka_drive.proofs.Limits.{keeps_limits}
+use Rattle.moka_cache.specs.Limits.{SetNoCapacity}
+use Rattle.moka_cache.specs.Saved.{PutsAllBack, PutsBack}
+use Rattle.moka_cache.specs.Synchronous.{Posts}
+use Rattle.moka_cache.proofs.Limits.{keeps_limits}
 
 posting_sets_none : {K V P : Type 0} (now : Instant) (ticket : Ticket) (calls : List (Call K V P)) (replies : List (Reply K V P)) → Posts now ticket calls replies → SetNoCapacity calls
 posting_sets_none now ticket calls replies (inl (is, replied)) = subst SetNoCapacity (sym is) (tt, (tt, tt))

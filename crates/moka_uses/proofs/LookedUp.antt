@@ -6,7 +6,7 @@ use Rattle.moka_engine.specs.Copies.{IsCopiedAnswer}
 use Rattle.moka_engine.specs.Runs.{Engine}
 use Rattle.moka_engine.specs.State.{Meaning}
 use Rattle.moka_engine.proofs.Copies.{answer-same}
-use Rattle.moka_drive.specs.Synchronous.{GetsValue, Makes}
+use Rattle.moka_cache.specs.Synchronous.{GetsValue, Makes}
 use Rattle.moka_uses.specs.Made.{LooksUp}
 
 module _ {K V S X L P W C : Type 0} (m : Meaning K V X L P W C (Unit {0})) (key : K) (hash : ℕ) (now : Instant) (old : Engine K V S X L P W) (clock : C) (new : Engine K V S X L P W) (clock_after : C) where

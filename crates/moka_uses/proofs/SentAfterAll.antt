@@ -12,9 +12,10 @@ use Rattle.moka_engine.specs.Maintenance.{Terms}
 use Rattle.moka_engine.specs.Settling.{IsValid}
 use Rattle.moka_engine.specs.State.{State, Events, is_disabled}
 use Rattle.moka_engine.proofs.Maps.{get_inserted}
-use Rattle.moka_drive.specs.Unsent.{AreOlder, HoldsUnsent, IsHeld}
-use Rattle.moka_drive.proofs.Posting.{listed_run_alike, listed_run_empties, listed_run_holds}
-use Rattle.moka_drive.proofs.Stays.{send_holds}
+use Rattle.moka_cache.specs.Unsent.{AreOlder, HoldsUnsent, IsHeld}
+use Rattle.moka_engine.proofs.Alike.{listed_run_alike}
+use Rattle.moka_cache.proofs.Posting.{listed_run_empties, listed_run_holds}
+use Rattle.moka_cache.proofs.Stays.{send_holds}
 use Rattle.moka_uses.specs.Refused.{IsSent}
 use Rattle.moka_uses.proofs.Sent.{HandsOut, back_again}
 

@@ -12,9 +12,9 @@ use Rattle.moka_engine.specs.parts.Uuid.{Uuid}
 use Rattle.moka_engine.specs.Copies.{IsCopiedAnswer}
 use Rattle.moka_engine.specs.Runs.{Engine}
 use Rattle.moka_engine.specs.State.{Meaning}
-use Rattle.moka_drive.specs.declared.error.GetWithRefused.{GetWithRefused}
-use Rattle.moka_drive.specs.declared.error.GetWithRefused.TheVariants.{Lookup, Insert}
-use Rattle.moka_drive.specs.Synchronous.{Synchronous, GetsValue, GetsWith, Makes}
+use Rattle.moka_cache.specs.declared.error.GetWithRefused.{GetWithRefused}
+use Rattle.moka_cache.specs.declared.error.GetWithRefused.TheVariants.{Lookup, Insert}
+use Rattle.moka_cache.specs.Synchronous.{Synchronous, GetsValue, GetsWith, Makes}
 use Rattle.moka_uses.specs.Made.{Inserts, IsOneCall, Registers, simple_meaning}
 
 module _ {K V S X L P W C : Type 0} (m : Meaning K V X L P W C (Unit {0})) (key : K) (value : V) (now : Instant)

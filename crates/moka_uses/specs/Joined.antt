@@ -9,8 +9,8 @@ use Rattle.moka_engine.specs.Copies.{IsCopiedAnswer}
 use Rattle.moka_engine.specs.Drives.{Drives}
 use Rattle.moka_engine.specs.Runs.{Engine}
 use Rattle.moka_engine.specs.State.{Meaning}
-use Rattle.moka_drive.specs.Laws.{anytime}
-use Rattle.moka_drive.specs.Synchronous.{GetsValue, InsertsEntry}
+use Rattle.moka_cache.specs.Laws.{anytime}
+use Rattle.moka_cache.specs.Synchronous.{GetsValue, InsertsEntry}
 
 -- the calls of an insert and then those of a get were made, and no others; together they are a run that keeps all that
 -- is promised of a list of calls, by a clock that may tell any moment

@@ -16,7 +16,7 @@ use Rattle.moka_engine.specs.Records.{record_of_key}
 use Rattle.moka_engine.specs.Runs.{Engine, Befalls, CallStep}
 use Rattle.moka_engine.specs.State.{Meaning, State, Events}
 use Rattle.moka_engine.specs.Surroundings.{Leads}
-use Rattle.moka_drive.specs.Synchronous.{Synchronous, GetsValue, InsertsEntry, Makes, RemovesEntry, fresh, hears_clones}
+use Rattle.moka_cache.specs.Synchronous.{Synchronous, GetsValue, InsertsEntry, Makes, RemovesEntry, fresh, hears_clones}
 
 -- what the parts of a cache mean that has no listener, no expiry but by times and no weigher, where keys, predicates,
 -- clock and source of identifiers answer so

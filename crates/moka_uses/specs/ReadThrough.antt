@@ -2,10 +2,10 @@
 use Rattle.std.specs.Prelude.{◌≡◌, ℕ, Bool, Result}
 use Rattle.moka_engine.specs.parts.Instant.{Instant}
 use Rattle.moka_engine.specs.State.{Meaning}
-use Rattle.moka_drive.specs.declared.error.GetWithRefused.{GetWithRefused}
-use Rattle.moka_drive.specs.declared.removals.CountingListener.{CountingListener}
-use Rattle.moka_drive.specs.Removed.{counting}
-use Rattle.moka_drive.specs.Synchronous.{Synchronous, GetsWith}
+use Rattle.moka_cache.specs.declared.error.GetWithRefused.{GetWithRefused}
+use Rattle.moka_cache.specs.declared.removals.CountingListener.{CountingListener}
+use Rattle.moka_cache.specs.Removed.{counting}
+use Rattle.moka_cache.specs.Synchronous.{Synchronous, GetsWith}
 use Rattle.moka_uses.specs.Made.{plain_meaning}
 
 -- what the parts of such a cache mean whose listener counts, and tells nobody else

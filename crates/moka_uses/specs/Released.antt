@@ -7,7 +7,7 @@ use Rattle.moka_engine.specs.parts.Reply.{Reply}
 use Rattle.moka_engine.specs.Drives.{Drives}
 use Rattle.moka_engine.specs.Runs.{Engine}
 use Rattle.moka_engine.specs.State.{Meaning}
-use Rattle.moka_drive.specs.Synchronous.{RemovesEntry}
+use Rattle.moka_cache.specs.Synchronous.{RemovesEntry}
 
 -- the calls of a removal of the key were made, and no others; they are a run that keeps all that is promised of a list
 -- of calls

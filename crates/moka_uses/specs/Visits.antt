@@ -7,15 +7,15 @@ use Rattle.moka_engine.specs.Records.{record_of_key}
 use Rattle.moka_engine.specs.Runs.{Engine}
 use Rattle.moka_engine.specs.State.{State, Meaning}
 use Rattle.moka_engine.specs.Visibility.{has_lapsed}
-use Rattle.moka_drive.specs.declared.compute.ComputeRefused.{ComputeRefused}
-use Rattle.moka_drive.specs.declared.compute.ComputeRefused.TheVariants as compute_refused
-use Rattle.moka_drive.specs.declared.compute.Op.{Op}
-use Rattle.moka_drive.specs.declared.compute.Op.TheVariants.{Nop, Remove}
-use Rattle.moka_drive.specs.declared.error.GetWithRefused.{GetWithRefused}
-use Rattle.moka_drive.specs.declared.error.GetWithRefused.TheVariants as get_with_refused
-use Rattle.moka_drive.specs.Computing.{InTurn}
-use Rattle.moka_drive.specs.Counters.{one_more}
-use Rattle.moka_drive.specs.Synchronous.{Makes, GetsValue, InsertsMade, RemovesEntry}
+use Rattle.moka_cache.specs.declared.compute.ComputeRefused.{ComputeRefused}
+use Rattle.moka_cache.specs.declared.compute.ComputeRefused.TheVariants as compute_refused
+use Rattle.moka_cache.specs.declared.compute.Op.{Op}
+use Rattle.moka_cache.specs.declared.compute.Op.TheVariants.{Nop, Remove}
+use Rattle.moka_cache.specs.declared.error.GetWithRefused.{GetWithRefused}
+use Rattle.moka_cache.specs.declared.error.GetWithRefused.TheVariants as get_with_refused
+use Rattle.moka_cache.specs.Computing.{InTurn}
+use Rattle.moka_cache.specs.Counters.{one_more}
+use Rattle.moka_cache.specs.Synchronous.{Makes, GetsValue, InsertsMade, RemovesEntry}
 use Rattle.moka_uses.specs.Made.{LooksUp, plain_meaning}
 
 module _ {X P W : Type 0} (s : State ℕ ℕ X P W) where

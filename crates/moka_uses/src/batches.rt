@@ -2,10 +2,10 @@
 ghost use Rattle.std.specs.Prelude.{◌≡◌, ◌++◌, ◌∷◌, List, length, IfOk, IfErr};
 ghost use Rattle.std.specs.Vec.Iter.{into_iter_items};
 ghost use Rattle.moka_engine.specs.Hashing.{key_hash};
-ghost use Rattle.moka_drive.specs.Many.{GetsMany, InsertsMany, InvalidatesMany};
-ghost use Rattle.moka_drive.specs.Synchronous.{Makes, hears_clones, meaning_of};
+ghost use Rattle.moka_cache.specs.Many.{GetsMany, InsertsMany, InvalidatesMany};
+ghost use Rattle.moka_cache.specs.Synchronous.{Makes, hears_clones, meaning_of};
 
-use moka_drive::{Cache, GetManyRefused, InsertManyRefused, InvalidateManyRefused};
+use moka_cache::{Cache, GetManyRefused, InsertManyRefused, InvalidateManyRefused};
 use moka_engine::{Clock, Expiry, Instant, Listener, PredicateFn, Weigher};
 use std::alloc::Global;
 use std::hash::{BuildHasher, Hash};

@@ -5,7 +5,7 @@ ghost use Rattle.std.specs.String.{string_bytes, string_eq};
 ghost use Rattle.moka_engine.specs.parts.Instant.{Instant};
 ghost use Rattle.moka_engine.specs.Config.{default_config};
 ghost use Rattle.moka_engine.specs.State.{is_disabled};
-ghost use Rattle.moka_drive.specs.Unsent.{IsThere};
+ghost use Rattle.moka_cache.specs.Unsent.{IsThere};
 ghost use Rattle.moka_uses.specs.Borrowed.{IsFoundAt, IsPriceOf};
 ghost use Rattle.moka_uses.specs.Made.{Inserts, IsNew, LooksUp, plain_meaning};
 

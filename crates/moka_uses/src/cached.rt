@@ -2,7 +2,7 @@
 ghost use Rattle.std.specs.Prelude.{◌≡◌, Some, IfOk};
 
 use anyhow::Result;
-use moka_drive::Cache;
+use moka_cache::Cache;
 use moka_engine::{CacheConfig, FixedClock, Instant};
 use std::alloc::Global;
 

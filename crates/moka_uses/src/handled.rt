@@ -3,12 +3,12 @@ ghost use Rattle.std.specs.Prelude.{◌≡◌, ◌==◌, ◌⊎◌, ◌++◌, �
 ghost use Rattle.moka_engine.specs.Calls.{ContainsStep};
 ghost use Rattle.moka_engine.specs.Records.{record_of_key};
 ghost use Rattle.moka_engine.specs.State.{is_disabled};
-ghost use Rattle.moka_drive.specs.Given.{IsHandedOut};
-ghost use Rattle.moka_drive.specs.Unsent.{IsThere};
+ghost use Rattle.moka_cache.specs.Given.{IsHandedOut};
+ghost use Rattle.moka_cache.specs.Unsent.{IsThere};
 ghost use Rattle.moka_uses.specs.Handled.{HidesOrInvalidates, InsertsOrRetries, ReadsThroughOrRetries, SetsCapacity, hiding_meaning};
 ghost use Rattle.moka_uses.specs.Made.{TakesOut, engine_meaning, plain_meaning};
 
-use moka_drive::{Cache, GetWithRefused};
+use moka_cache::{Cache, GetWithRefused};
 use moka_engine::{
     CapacityError, Clock, IdSource, InsertError, InsertRefused, Instant, Listener, NoExpiry,
     NoListener, OutOfMemory, PredicateFn, PredicateId,

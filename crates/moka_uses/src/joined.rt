@@ -1,8 +1,8 @@
 //! Calls of a cache that owns its clock, joined into one list, however far the clock moves between them.
-ghost use Rattle.moka_drive.specs.Synchronous.{meaning_of};
+ghost use Rattle.moka_cache.specs.Synchronous.{meaning_of};
 ghost use Rattle.moka_uses.specs.Joined.{DrivesBoth};
 
-use moka_drive::laws::made_anytime;
+use moka_cache::laws::made_anytime;
 use moka_engine::{
     Clock, DefaultHasher, Expiry, InsertRefused, Listener, OutOfMemory, PredicateFn, Weigher,
 };

@@ -5,7 +5,7 @@ ghost use Rattle.moka_engine.specs.parts.Instant.{Instant};
 ghost use Rattle.moka_engine.specs.Calls.{ContainsStep};
 ghost use Rattle.moka_engine.specs.Config.{default_config};
 ghost use Rattle.moka_engine.specs.State.{is_disabled};
-ghost use Rattle.moka_drive.specs.Unsent.{IsThere};
+ghost use Rattle.moka_cache.specs.Unsent.{IsThere};
 ghost use Rattle.moka_uses.specs.Logins.{LogsOut, is_of, meaning};
 ghost use Rattle.moka_uses.specs.Made.{HasValue, Inserts, IsNew, LooksUp, Registers};
 

@@ -1,7 +1,7 @@
 //! A cache with a listener that counts what leaves.
 ghost use Rattle.std.specs.Prelude.{◌≡◌, ◌==◌, Some, IfOk};
 ghost use Rattle.std.specs.FinMap.{empty};
-ghost use Rattle.moka_drive.specs.Unsent.{IsThere};
+ghost use Rattle.moka_cache.specs.Unsent.{IsThere};
 
 use anyhow::Result;
 use moka_engine::{CacheConfig, Engine, Instant, Listener, NoExpiry, RemovalCause};

@@ -3,12 +3,12 @@ ghost use Rattle.std.specs.Prelude.{◌≡◌, ◌==◌, false, IfOk, Some};
 ghost use Rattle.std.specs.Duration.{as_nanos};
 ghost use Rattle.moka_engine.specs.parts.Instant.{Instant};
 ghost use Rattle.moka_engine.specs.Config.{default_config};
-ghost use Rattle.moka_drive.specs.Given.{IsHandedOut};
-ghost use Rattle.moka_drive.specs.Removed.{no_removals};
+ghost use Rattle.moka_cache.specs.Given.{IsHandedOut};
+ghost use Rattle.moka_cache.specs.Removed.{no_removals};
 ghost use Rattle.moka_uses.specs.Made.{IsNew};
 ghost use Rattle.moka_uses.specs.ReadThrough.{ReadsThrough, counting_meaning};
 
-use moka_drive::{CountingListener, GetWithRefused};
+use moka_cache::{CountingListener, GetWithRefused};
 use moka_engine::{CacheConfig, Clock, NoExpiry, NoListener, OutOfMemory};
 use moka_timed::TimedCache;
 use std::alloc::Global;

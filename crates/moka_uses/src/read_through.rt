@@ -1,11 +1,11 @@
 //! A read-through cache over a source that can fail.
 ghost use Rattle.std.specs.Prelude.{ℕ, false, None, Ok, Err, IfOk, IfErr};
 ghost use Rattle.moka_engine.specs.Calls.{ContainsStep};
-ghost use Rattle.moka_drive.specs.Given.{ComesBack, IsHandedOut};
-ghost use Rattle.moka_drive.specs.Synchronous.{GetsWithIfNoError, meaning_of};
+ghost use Rattle.moka_cache.specs.Given.{ComesBack, IsHandedOut};
+ghost use Rattle.moka_cache.specs.Synchronous.{GetsWithIfNoError, meaning_of};
 ghost use Rattle.moka_uses.specs.Made.{LooksUp};
 
-use moka_drive::{Cache, GetWithRefused};
+use moka_cache::{Cache, GetWithRefused};
 use moka_engine::{Clock, Expiry, Instant, Listener, PredicateFn, Weigher};
 use std::hash::Hash;
 

@@ -2,7 +2,7 @@
 ghost use Rattle.std.specs.Prelude.{◌≡◌, ◌==◌, ◌↔◌, false, None, IfErr, IfOk, IsTrue, OnErr};
 ghost use Rattle.std.specs.FinMap.{get};
 ghost use Rattle.moka_engine.specs.State.{is_disabled};
-ghost use Rattle.moka_drive.specs.Unsent.{HoldsUnsent, IsThere};
+ghost use Rattle.moka_cache.specs.Unsent.{HoldsUnsent, IsThere};
 ghost use Rattle.moka_uses.specs.Made.{engine_meaning};
 ghost use Rattle.moka_uses.specs.Refused.{InsertsAndSends, IsSent, SendsAfterAll};
 

@@ -3,11 +3,11 @@ ghost use Rattle.moka_engine.specs.Copies.{ClonesAreEqual};
 ghost use Rattle.std.specs.Prelude.{◌≡◌, None, Option, Result};
 ghost use Rattle.moka_engine.specs.parts.OutOfMemory.{OutOfMemory};
 ghost use Rattle.moka_engine.specs.Records.{record_of_key};
-ghost use Rattle.moka_drive.specs.Synchronous.{invalidated, meaning_of};
+ghost use Rattle.moka_cache.specs.Synchronous.{invalidated, meaning_of};
 ghost use Rattle.moka_uses.specs.Released.{DrivesRemoval};
 
-use moka_drive::laws::{hears_themselves, keeps_promises};
-use moka_drive::{Cache, NotTold};
+use moka_cache::laws::{hears_themselves, keeps_promises};
+use moka_cache::{Cache, NotTold};
 use moka_engine::{
     Clock, DefaultHasher, Expiry, Instant, Listener, NoExpiry, PredicateFn, RemovalCause, Weigher,
 };

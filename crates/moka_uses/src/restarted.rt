@@ -5,12 +5,12 @@ ghost use Rattle.moka_engine.specs.parts.Instant.{Instant};
 ghost use Rattle.moka_engine.specs.Config.{default_config};
 ghost use Rattle.moka_engine.specs.Snapshots.{scene_of};
 ghost use Rattle.moka_engine.specs.declared.base_cache.restores.Restored.{Restored};
-ghost use Rattle.moka_drive.specs.Saved.{HasOnlyMembers, AreSaved};
+ghost use Rattle.moka_cache.specs.Saved.{HasOnlyMembers, AreSaved};
 ghost use Rattle.moka_uses.specs.Made.{plain_meaning};
 ghost use Rattle.moka_uses.specs.Restarted.{AreAmong, AreBack, AreBegunAgain, AreHandedOver, ArePutBack, Runs};
 
 use crate::sessions::Sessions;
-use moka_drive::laws::made_again_answers_alike;
+use moka_cache::laws::made_again_answers_alike;
 use moka_engine::{CacheConfig, Clock, NoExpiry, NoPredicate, NoWeigher, OutOfMemory, Restored};
 use moka_timed::TimedCache;
 use std::alloc::Global;

@@ -1,11 +1,11 @@
 //! Entry calls by moka's names: a value that is put only if its key is not there.
 ghost use Rattle.std.specs.Prelude.{◌≡◌, IfErr, IfOk};
-ghost use Rattle.moka_drive.specs.Entries.{OrInserts};
-ghost use Rattle.moka_drive.specs.Given.{IsHandedOut};
+ghost use Rattle.moka_cache.specs.Entries.{OrInserts};
+ghost use Rattle.moka_cache.specs.Given.{IsHandedOut};
 ghost use Rattle.moka_engine.specs.Hashing.{key_hash};
-ghost use Rattle.moka_drive.specs.Synchronous.{meaning_of};
+ghost use Rattle.moka_cache.specs.Synchronous.{meaning_of};
 
-use moka_drive::{Cache, CacheEntry};
+use moka_cache::{Cache, CacheEntry};
 use moka_engine::{Clock, Expiry, InsertRefused, Instant, Listener, PredicateFn, Weigher};
 use std::hash::{BuildHasher, Hash};
 

@@ -5,7 +5,7 @@ ghost use Rattle.moka_engine.specs.parts.Instant.{Instant};
 ghost use Rattle.moka_engine.specs.Config.{default_config};
 ghost use Rattle.moka_engine.specs.Records.{record_of_key};
 ghost use Rattle.moka_engine.specs.State.{is_disabled};
-ghost use Rattle.moka_drive.specs.Unsent.{IsThere};
+ghost use Rattle.moka_cache.specs.Unsent.{IsThere};
 ghost use Rattle.moka_uses.specs.Made.{HasValue, Inserts, IsNew, LooksUp, TakesOut, plain_meaning};
 ghost use Rattle.moka_uses.specs.Sessions.{IsFoundWithin};
 

@@ -1,11 +1,11 @@
 //! Visits, counted by page.
 ghost use Rattle.std.specs.Prelude.{◌≡◌, IfErr, IfOk, IfSome, Ok, option_copied};
-ghost use Rattle.moka_drive.specs.Given.{ComesBack};
+ghost use Rattle.moka_cache.specs.Given.{ComesBack};
 ghost use Rattle.moka_uses.specs.Made.{LooksUp};
 ghost use Rattle.moka_uses.specs.Visits.{HasLeft, IsFull, PutsCount, RefusesCount, RefusesTake, RemovesCount, count_at, meaning, next_count, op_for, page_of};
 
-use moka_drive::laws::hears_themselves;
-use moka_drive::{Cache, CompResult, ComputeRefused, GetWithRefused, Op};
+use moka_cache::laws::hears_themselves;
+use moka_cache::{Cache, CompResult, ComputeRefused, GetWithRefused, Op};
 use moka_engine::{Clock, DefaultHasher, Instant, NoExpiry, NoListener, NoPredicate, NoWeigher};
 
 /// Counts a visit of a page, and hands out how many there are now: one more than the count that is visible at the

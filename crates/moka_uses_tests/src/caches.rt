@@ -2,7 +2,7 @@
 //! `moka_uses::selected`, and of modules with a file of their own.
 use crate::makers::{answering, failing};
 use crate::{batches, handled, visits};
-use moka_drive::Cache;
+use moka_cache::Cache;
 use moka_engine::{CacheConfig, FixedClock, Instant};
 use moka_uses::read_through::look_up;
 use moka_uses::selected::put_if_absent;

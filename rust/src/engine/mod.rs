@@ -10,4 +10,5 @@ pub mod moka_maintenance;
 pub mod moka_inner;
 pub mod moka_engine;
 pub mod moka_drive;
+pub mod moka_cache;
 pub mod moka_segments;

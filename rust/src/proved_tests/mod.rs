@@ -2,6 +2,6 @@
 pub mod moka_tests;
 pub mod moka_timed;
 pub mod moka_workload;
-pub mod moka_drive_tests;
+pub mod moka_cache_tests;
 pub mod moka_uses;
 pub mod moka_uses_tests;

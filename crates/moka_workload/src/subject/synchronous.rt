@@ -2,7 +2,7 @@
 use super::Subject;
 use crate::config::Config;
 use crate::engines::engine_of;
-use moka_drive::Cache;
+use moka_cache::Cache;
 use moka_parts::closures::{NoPredicate, NoWeigher};
 use moka_parts::error::OutOfMemory;
 use moka_parts::housekeeper::FixedClock;

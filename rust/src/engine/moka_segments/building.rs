@@ -4,7 +4,7 @@ use crate::support::prelude::*;
 
 use crate::engine::moka_segments::router::Router;
 use crate::engine::moka_segments::segmented::SegmentedCache;
-use crate::engine::moka_drive::Cache;
+use crate::engine::moka_cache::Cache;
 use crate::engine::moka_engine::config::{CacheConfig, DefaultHasher};
 use crate::engine::moka_parts::closures::{PredicateFn, Weigher};
 use crate::engine::moka_parts::error::OutOfMemory;

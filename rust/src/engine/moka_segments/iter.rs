@@ -3,7 +3,7 @@
 use crate::support::prelude::*;
 
 use crate::engine::moka_segments::segmented::SegmentedCache;
-use crate::engine::moka_drive::Cache;
+use crate::engine::moka_cache::Cache;
 use crate::engine::moka_parts::closures::{PredicateFn, Weigher};
 use crate::engine::moka_parts::error::OutOfMemory;
 use crate::engine::moka_parts::notification::Listener;

@@ -3,7 +3,7 @@
 use crate::support::prelude::*;
 
 use crate::engine::moka_segments::router::Router;
-use crate::engine::moka_drive::{Cache, GetWithRefused, NotTold};
+use crate::engine::moka_cache::{Cache, GetWithRefused, NotTold};
 use crate::engine::moka_engine::config::DefaultHasher;
 use crate::engine::moka_parts::closures::{NoPredicate, NoWeigher, PredicateFn, Weigher};
 use crate::engine::moka_parts::error::{InsertRefused, OutOfMemory};

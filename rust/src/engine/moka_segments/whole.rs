@@ -3,7 +3,7 @@
 use crate::support::prelude::*;
 
 use crate::engine::moka_segments::segmented::SegmentedCache;
-use crate::engine::moka_drive::{Cache, Stats};
+use crate::engine::moka_cache::{Cache, Stats};
 use crate::engine::moka_parts::closures::{PredicateFn, Weigher};
 use crate::engine::moka_parts::housekeeper::Clock;
 use crate::engine::moka_parts::notification::Listener;

@@ -3,7 +3,7 @@
 use crate::support::prelude::*;
 
 use crate::proved_tests::moka_timed::cache::TimedCache;
-use crate::engine::moka_drive::error::NotTold;
+use crate::engine::moka_cache::error::NotTold;
 use crate::engine::moka_parts::closures::{PredicateFn, Weigher};
 use crate::engine::moka_parts::error::OutOfMemory;
 use crate::engine::moka_parts::housekeeper::Clock;

@@ -2,9 +2,9 @@
 //! A synchronous cache that owns its clock.
 use crate::support::prelude::*;
 
-use crate::engine::moka_drive::cache::Cache;
-use crate::engine::moka_drive::error::{GetWithRefused, NotTold};
-use crate::engine::moka_drive::stats::Stats;
+use crate::engine::moka_cache::cache::Cache;
+use crate::engine::moka_cache::error::{GetWithRefused, NotTold};
+use crate::engine::moka_cache::stats::Stats;
 use crate::engine::moka_engine::config::{CacheConfig, DefaultHasher};
 use crate::engine::moka_parts::closures::{NoPredicate, NoWeigher, PredicateFn, Weigher};
 use crate::engine::moka_parts::error::{CapacityError, InsertRefused, OutOfMemory, PredicateRefused};

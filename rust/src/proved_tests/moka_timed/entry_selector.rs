@@ -3,9 +3,9 @@
 use crate::support::prelude::*;
 
 use crate::proved_tests::moka_timed::cache::TimedCache;
-use crate::engine::moka_drive::compute::{CompResult, ComputeRefused, Op};
-use crate::engine::moka_drive::entry::CacheEntry;
-use crate::engine::moka_drive::error::GetWithRefused;
+use crate::engine::moka_cache::compute::{CompResult, ComputeRefused, Op};
+use crate::engine::moka_cache::entry::CacheEntry;
+use crate::engine::moka_cache::error::GetWithRefused;
 use crate::engine::moka_parts::closures::{PredicateFn, Weigher};
 use crate::engine::moka_parts::error::InsertRefused;
 use crate::engine::moka_parts::housekeeper::Clock;

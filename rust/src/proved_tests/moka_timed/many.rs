@@ -3,7 +3,7 @@
 use crate::support::prelude::*;
 
 use crate::proved_tests::moka_timed::cache::TimedCache;
-use crate::engine::moka_drive::many::{GetManyRefused, InsertManyRefused, InvalidateManyRefused};
+use crate::engine::moka_cache::many::{GetManyRefused, InsertManyRefused, InvalidateManyRefused};
 use crate::engine::moka_parts::closures::{PredicateFn, Weigher};
 use crate::engine::moka_parts::housekeeper::Clock;
 use crate::engine::moka_parts::notification::Listener;

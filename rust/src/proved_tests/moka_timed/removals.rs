@@ -3,7 +3,7 @@
 use crate::support::prelude::*;
 
 use crate::proved_tests::moka_timed::cache::TimedCache;
-use crate::engine::moka_drive::removals::{CountingListener, Removals};
+use crate::engine::moka_cache::removals::{CountingListener, Removals};
 use crate::engine::moka_parts::closures::{PredicateFn, Weigher};
 use crate::engine::moka_parts::notification::Listener;
 use crate::engine::moka_parts::policy::Expiry;

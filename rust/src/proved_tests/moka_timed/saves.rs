@@ -3,7 +3,7 @@
 use crate::support::prelude::*;
 
 use crate::proved_tests::moka_timed::cache::TimedCache;
-use crate::engine::moka_drive::cache::RestoreManyRefused;
+use crate::engine::moka_cache::cache::RestoreManyRefused;
 use crate::engine::moka_engine::base_cache::{RestoreRefused, Restored};
 use crate::engine::moka_parts::closures::{PredicateFn, Weigher};
 use crate::engine::moka_parts::error::OutOfMemory;

@@ -2,7 +2,7 @@
 //! Rows that are put in, looked up and taken out many at a time.
 use crate::support::prelude::*;
 
-use crate::engine::moka_drive::{Cache, GetManyRefused, InsertManyRefused, InvalidateManyRefused};
+use crate::engine::moka_cache::{Cache, GetManyRefused, InsertManyRefused, InvalidateManyRefused};
 use crate::engine::moka_engine::{Clock, Expiry, Instant, Listener, PredicateFn, Weigher};
 use crate::support::alloc::Global;
 use crate::support::hash::{BuildHasher, Hash};

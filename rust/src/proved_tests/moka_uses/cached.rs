@@ -3,7 +3,7 @@
 use crate::support::prelude::*;
 
 use crate::support::anyhow::Result;
-use crate::engine::moka_drive::Cache;
+use crate::engine::moka_cache::Cache;
 use crate::engine::moka_engine::{CacheConfig, FixedClock, Instant};
 use crate::support::alloc::Global;
 

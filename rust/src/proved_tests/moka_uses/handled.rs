@@ -2,7 +2,7 @@
 //! A caller that handles each refusal of the synchronous cache.
 use crate::support::prelude::*;
 
-use crate::engine::moka_drive::{Cache, GetWithRefused};
+use crate::engine::moka_cache::{Cache, GetWithRefused};
 use crate::engine::moka_engine::{
     CapacityError, Clock, IdSource, InsertError, InsertRefused, Instant, Listener, NoExpiry,
     NoListener, OutOfMemory, PredicateFn, PredicateId,

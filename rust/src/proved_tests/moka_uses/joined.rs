@@ -2,7 +2,7 @@
 //! Calls of a cache that owns its clock, joined into one list, however far the clock moves between them.
 use crate::support::prelude::*;
 
-use crate::engine::moka_drive::laws::made_anytime;
+use crate::engine::moka_cache::laws::made_anytime;
 use crate::engine::moka_engine::{
     Clock, DefaultHasher, Expiry, InsertRefused, Listener, OutOfMemory, PredicateFn, Weigher,
 };

@@ -2,7 +2,7 @@
 //! A read-through cache of profiles, each of which lasts a while, with a listener that counts what leaves.
 use crate::support::prelude::*;
 
-use crate::engine::moka_drive::{CountingListener, GetWithRefused};
+use crate::engine::moka_cache::{CountingListener, GetWithRefused};
 use crate::engine::moka_engine::{CacheConfig, Clock, NoExpiry, NoListener, OutOfMemory};
 use crate::proved_tests::moka_timed::TimedCache;
 use crate::support::alloc::Global;

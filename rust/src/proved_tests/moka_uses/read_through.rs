@@ -2,7 +2,7 @@
 //! A read-through cache over a source that can fail.
 use crate::support::prelude::*;
 
-use crate::engine::moka_drive::{Cache, GetWithRefused};
+use crate::engine::moka_cache::{Cache, GetWithRefused};
 use crate::engine::moka_engine::{Clock, Expiry, Instant, Listener, PredicateFn, Weigher};
 use crate::support::hash::Hash;
 

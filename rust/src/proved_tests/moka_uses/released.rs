@@ -2,8 +2,8 @@
 //! A cache with a listener that gives back what a value held.
 use crate::support::prelude::*;
 
-use crate::engine::moka_drive::laws::{hears_themselves, keeps_promises};
-use crate::engine::moka_drive::{Cache, NotTold};
+use crate::engine::moka_cache::laws::{hears_themselves, keeps_promises};
+use crate::engine::moka_cache::{Cache, NotTold};
 use crate::engine::moka_engine::{
     Clock, DefaultHasher, Expiry, Instant, Listener, NoExpiry, PredicateFn, RemovalCause, Weigher,
 };

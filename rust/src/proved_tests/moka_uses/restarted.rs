@@ -3,7 +3,7 @@
 use crate::support::prelude::*;
 
 use crate::proved_tests::moka_uses::sessions::Sessions;
-use crate::engine::moka_drive::laws::made_again_answers_alike;
+use crate::engine::moka_cache::laws::made_again_answers_alike;
 use crate::engine::moka_engine::{CacheConfig, Clock, NoExpiry, NoPredicate, NoWeigher, OutOfMemory, Restored};
 use crate::proved_tests::moka_timed::TimedCache;
 use crate::support::alloc::Global;

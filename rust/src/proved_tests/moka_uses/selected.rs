@@ -2,7 +2,7 @@
 //! Entry calls by moka's names: a value that is put only if its key is not there.
 use crate::support::prelude::*;
 
-use crate::engine::moka_drive::{Cache, CacheEntry};
+use crate::engine::moka_cache::{Cache, CacheEntry};
 use crate::engine::moka_engine::{Clock, Expiry, InsertRefused, Instant, Listener, PredicateFn, Weigher};
 use crate::support::hash::{BuildHasher, Hash};
 

@@ -2,8 +2,8 @@
 //! Visits, counted by page.
 use crate::support::prelude::*;
 
-use crate::engine::moka_drive::laws::hears_themselves;
-use crate::engine::moka_drive::{Cache, CompResult, ComputeRefused, GetWithRefused, Op};
+use crate::engine::moka_cache::laws::hears_themselves;
+use crate::engine::moka_cache::{Cache, CompResult, ComputeRefused, GetWithRefused, Op};
 use crate::engine::moka_engine::{Clock, DefaultHasher, Instant, NoExpiry, NoListener, NoPredicate, NoWeigher};
 
 /// Counts a visit of a page, and hands out how many there are now: one more than the count that is visible at the

@@ -6,7 +6,7 @@ use crate::support::prelude::*;
 use crate::support::test::prelude::*;
 use crate::proved_tests::moka_uses_tests::makers::{answering, failing};
 use crate::proved_tests::moka_uses_tests::{batches, handled, visits};
-use crate::engine::moka_drive::Cache;
+use crate::engine::moka_cache::Cache;
 use crate::engine::moka_engine::{CacheConfig, FixedClock, Instant};
 use crate::proved_tests::moka_uses::read_through::look_up;
 use crate::proved_tests::moka_uses::selected::put_if_absent;

@@ -5,15 +5,14 @@ use Rattle.moka_parts.specs.Listed.{ListedRun}
 use Rattle.moka_parts.specs.State.{Events, meaning_of}
 use Rattle.moka_parts.specs.Surroundings.{Leads}
 use Rattle.moka_parts.proofs.Copies.{answer-same, entry-same}
-use Rattle.moka_drive.proofs.Made.{nothing_befalls}
-use Rattle.moka_drive.proofs.Posting.{listed_run_alike}
-use Rattle.moka_drive.proofs.Quiet.{keys_step, pending_step}
-use Rattle.moka_drive.proofs.Waiting.{get_alike}
+use Rattle.moka_engine.proofs.Alike.{get_alike, listed_run_alike}
+use Rattle.moka_engine.proofs.Quiet.{befalls-nothing}
+use Rattle.moka_drive.proofs.Reports.{keys_step, pending_step}
 use Rattle.moka_drive.proofs.driver.make.Goals as goal
 
 pub returns-then-is_map_disabled : goal.returns-then-is_map_disabled
 returns-then-is_map_disabled g c =
-    rw c.in-Insert.is (no_events, (sym c.is_map_disabled.ensures ∙ c.if-is_map_disabled.true, refl, refl, (refl, refl)), nothing_befalls g.L.Listener.tells c.args.cache.now, (refl, refl))
+    rw c.in-Insert.is (no_events, (sym c.is_map_disabled.ensures ∙ c.if-is_map_disabled.true, refl, refl, (refl, refl)), befalls-nothing g.L.Listener.tells c.args.cache.now, (refl, refl))
 
 pub returns-in-Get : goal.returns-in-Get
 returns-in-Get g c =
@@ -38,15 +37,15 @@ returns-in-Scan g c =
     let looked = c.scanning_get.ensures in
     let same = answer-same g.V.Clone.is_clone c.requires.values looked.0 c.scanning_get.result looked.2 in
     let step = subst (λ a. ScanStep g.P.PredicateFn.says g.K.PartialEq.eq c.args.cache.now.state c.in-Scan.key c.in-Scan.now.0 a) (sym same) looked.1 in
-    rw c.in-Scan.is (no_events, (step, (refl, refl)), nothing_befalls g.L.Listener.tells c.args.cache.now, (refl, refl))
+    rw c.in-Scan.is (no_events, (step, (refl, refl)), befalls-nothing g.L.Listener.tells c.args.cache.now, (refl, refl))
 
 pub returns-in-Contains : goal.returns-in-Contains
 returns-in-Contains g c =
-    rw c.in-Contains.is (no_events, (c.contains_key_with_hash.ensures, (refl, refl)), nothing_befalls g.L.Listener.tells c.args.cache.now, (refl, refl))
+    rw c.in-Contains.is (no_events, (c.contains_key_with_hash.ensures, (refl, refl)), befalls-nothing g.L.Listener.tells c.args.cache.now, (refl, refl))
 
 pub returns-in-Key : goal.returns-in-Key
 returns-in-Key g c =
-    rw c.in-Key.is (no_events, (c.key_of.ensures, (refl, refl)), nothing_befalls g.L.Listener.tells c.args.cache.now, (refl, refl))
+    rw c.in-Key.is (no_events, (c.key_of.ensures, (refl, refl)), befalls-nothing g.L.Listener.tells c.args.cache.now, (refl, refl))
 
 pub returns-in-InvalidateAll : goal.returns-in-InvalidateAll
 returns-in-InvalidateAll g c = rw c.in-InvalidateAll.is (no_events, (c.invalidate_all.ensures.step, refl), c.invalidate_all.ensures.events, (refl, refl))
@@ -61,15 +60,15 @@ returns-in-DisableAutoRun g c = rw c.in-DisableAutoRun.is (no_events, (c.disable
 
 pub returns-in-Keys : goal.returns-in-Keys
 returns-in-Keys g c =
-    rw c.in-Keys.is (no_events, keys_step g.K.Clone.is_clone c.requires.keys (meaning_of g.K.PartialEq.eq g.L.Listener.tells g.P.PredicateFn.says g.W.Weigher.weighs g.C.Clock.reads g.I.IdSource.gives g.X.Expiry.created g.X.Expiry.read g.X.Expiry.updated) (ListedRun g.P.PredicateFn.says g.X.Expiry.read c.args.cache.now.write_list c.args.cache.now.write_list) c.args.cache.now.state c.in-Keys.segment c.keys.result c.keys.ensures.ok c.keys.ensures.err, nothing_befalls g.L.Listener.tells c.args.cache.now, (refl, refl))
+    rw c.in-Keys.is (no_events, keys_step g.K.Clone.is_clone c.requires.keys (meaning_of g.K.PartialEq.eq g.L.Listener.tells g.P.PredicateFn.says g.W.Weigher.weighs g.C.Clock.reads g.I.IdSource.gives g.X.Expiry.created g.X.Expiry.read g.X.Expiry.updated) (ListedRun g.P.PredicateFn.says g.X.Expiry.read c.args.cache.now.write_list c.args.cache.now.write_list) c.args.cache.now.state c.in-Keys.segment c.keys.result c.keys.ensures.ok c.keys.ensures.err, befalls-nothing g.L.Listener.tells c.args.cache.now, (refl, refl))
 
 pub returns-in-Report : goal.returns-in-Report
 returns-in-Report g c =
-    rw c.in-Report.is (rw c.report.ensures (no_events, (refl, refl, refl, (refl, refl)), nothing_befalls g.L.Listener.tells c.args.cache.now, (refl, refl)))
+    rw c.in-Report.is (rw c.report.ensures (no_events, (refl, refl, refl, (refl, refl)), befalls-nothing g.L.Listener.tells c.args.cache.now, (refl, refl)))
 
 pub returns-in-Pending : goal.returns-in-Pending
 returns-in-Pending g c =
-    rw c.in-Pending.is (no_events, pending_step (meaning_of g.K.PartialEq.eq g.L.Listener.tells g.P.PredicateFn.says g.W.Weigher.weighs g.C.Clock.reads g.I.IdSource.gives g.X.Expiry.created g.X.Expiry.read g.X.Expiry.updated) (ListedRun g.P.PredicateFn.says g.X.Expiry.read c.args.cache.now.write_list c.args.cache.now.write_list) c.args.cache.now.state c.pending.result c.pending.ensures, nothing_befalls g.L.Listener.tells c.args.cache.now, (refl, refl))
+    rw c.in-Pending.is (no_events, pending_step (meaning_of g.K.PartialEq.eq g.L.Listener.tells g.P.PredicateFn.says g.W.Weigher.weighs g.C.Clock.reads g.I.IdSource.gives g.X.Expiry.created g.X.Expiry.read g.X.Expiry.updated) (ListedRun g.P.PredicateFn.says g.X.Expiry.read c.args.cache.now.write_list c.args.cache.now.write_list) c.args.cache.now.state c.pending.result c.pending.ensures, befalls-nothing g.L.Listener.tells c.args.cache.now, (refl, refl))
 
 pub returns-in-SetCapacity : goal.returns-in-SetCapacity
 returns-in-SetCapacity g c = rw c.in-SetCapacity.is (no_events, (c.set_max_capacity.ensures.step, refl), c.set_max_capacity.ensures.events, (refl, refl))

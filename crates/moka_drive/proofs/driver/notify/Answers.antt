@@ -1,10 +1,10 @@
 use Rattle.std.proofs.Common.{refl, []}
 use Rattle.moka_parts.proofs.Copies.{notified-same}
-use Rattle.moka_drive.proofs.Made.{nothing_befalls}
+use Rattle.moka_engine.proofs.Quiet.{befalls-nothing}
 use Rattle.moka_drive.proofs.driver.notify.Goals as goal
 
 pub returns-in-None : goal.returns-in-None
-returns-in-None g c = ([], (λ ticket. rw c.in-None.is (refl, refl)), refl, nothing_befalls g.L.Listener.tells c.args.cache.now)
+returns-in-None g c = ([], (λ ticket. rw c.in-None.is (refl, refl)), refl, befalls-nothing g.L.Listener.tells c.args.cache.now)
 
 pub returns-in-Some : goal.returns-in-Some
 returns-in-Some g c =

@@ -1,14 +1,13 @@
 use Rattle.std.proofs.Common.{refl, sym, subst, Some}
 use Rattle.moka_parts.specs.Calls.{only_notices, RemoveStep, NotifiesAfter}
-use Rattle.moka_drive.proofs.Limits.{remove_limits}
-use Rattle.moka_drive.proofs.Quiet.{befalls_then}
+use Rattle.moka_engine.proofs.Quiet.{befalls_then, removal_keeps}
 use Rattle.moka_drive.proofs.driver.remove.Goals as goal
 
 pub returns : goal.returns
 returns g c =
     let told = c.notify-told.ensures in
     let step = c.in-Some.ensures.step in
-    let settings = (remove_limits g.K.PartialEq.eq c.args.cache.now.state c.remove_entry.new.self.state c.args.key.now (Some (c.in-Some.entry, c.in-Some.ticket)) step).settings in (
+    let settings = (removal_keeps g.K.PartialEq.eq c.args.cache.now.state c.remove_entry.new.self.state c.args.key.now (Some (c.in-Some.entry, c.in-Some.ticket)) step).0 in (
       only_notices told.0,
       (
         subst (λ t. RemoveStep g.K.PartialEq.eq c.args.cache.now.state c.args.key.now (Some (c.in-Some.entry, c.in-Some.ticket)) t) (sym told.2) step,

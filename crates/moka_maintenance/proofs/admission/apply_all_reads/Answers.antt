@@ -9,11 +9,14 @@ use Rattle.moka_maintenance.proofs.ReadsApplied.{AreLeft, all-left, fewer-left, 
 use Rattle.moka_maintenance.proofs.admission.apply_all_reads.Goals as goal
 
 pub apply_each_read-requires : goal.apply_each_read-requires
-apply_each_read-requires g c q there =
+apply_each_read-requires g c =
     let split : c.split_at.result.0.now ++ c.split_at.result.1.now ≡ c.loop-rest.rest.now = rw (c.split_at.ensures.front, c.split_at.ensures.back) (take-append-drop c.min.result c.loop-rest.rest.now) in
-    let inside = subst (λ (qs : List QueuedRead). Contains qs q) split (Contains-append_left c.split_at.result.0.now c.split_at.result.1.now q there) in
-    subst (λ (k : Kept g.row.K.Denot g.row.V.Denot g.row.S.Denot). IsReadAt k.places q.place (read_of q)) (sym c.read_nodes.ensures)
-    (left-located c.args.reads.now c.loop-rest.rest.now c.args.store.now c.loop-rest.store q c.loop-rest.invariant c.requires inside)
+    record {
+      located = λ q there.
+          (let inside = subst (λ (qs : List QueuedRead). Contains qs q) split (Contains-append_left c.split_at.result.0.now c.split_at.result.1.now q there) in
+          subst (λ (k : Kept g.row.K.Denot g.row.V.Denot g.row.S.Denot). IsReadAt k.places q.place (read_of q)) (sym c.read_nodes.ensures)
+          (left-located c.args.reads.now c.loop-rest.rest.now c.args.store.now c.loop-rest.store q c.loop-rest.invariant c.requires.located inside));
+    }
 
 pub loop-rest-preserved : goal.loop-rest-preserved
 loop-rest-preserved g c =

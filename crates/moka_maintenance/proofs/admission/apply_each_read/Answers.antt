@@ -1,17 +1,12 @@
 use Rattle.std.proofs.Common.{List, sym, subst}
 use Rattle.std.proofs.lemmas.List.{take_more, take_all}
-use Rattle.std.proofs.lemmas.List.Elements.{Contains-get_or}
 use Rattle.moka_maintenance.specs.declared.queued.QueuedRead.{QueuedRead}
 use Rattle.moka_maintenance.specs.Queues.{AppliesReads}
-use Rattle.moka_maintenance.proofs.ReadsApplied.{applies-none, applies-one, applies-both, located-on}
+use Rattle.moka_maintenance.proofs.ReadsApplied.{applies-none, applies-one, applies-both}
 use Rattle.moka_maintenance.proofs.admission.apply_each_read.Goals as goal
 
 pub loop-read-init : goal.loop-read-init
 loop-read-init g c = applies-none _
-
-pub apply_read-requires : goal.apply_read-requires
-apply_read-requires g c =
-    located-on _ _ _ _ c.loop-read.invariant (c.requires _ (Contains-get_or c.args.reads.now c.loop-read.read-index _ c.loop-read-test.true))
 
 pub loop-read-preserved : goal.loop-read-preserved
 loop-read-preserved g c =

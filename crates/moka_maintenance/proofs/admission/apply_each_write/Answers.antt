@@ -1,6 +1,5 @@
 use Rattle.std.proofs.Common.{List, take, sym, subst, get_or}
 use Rattle.std.proofs.lemmas.List.{take_more, take_all}
-use Rattle.std.proofs.lemmas.List.Elements.{Contains-get_or}
 use Rattle.moka_maintenance.specs.declared.queued.QueuedWrite.{QueuedWrite}
 use Rattle.moka_maintenance.specs.Queued.{writes_of}
 use Rattle.moka_maintenance.specs.Queues.{AppliesWrites}
@@ -9,9 +8,6 @@ use Rattle.moka_maintenance.proofs.admission.apply_each_write.Goals as goal
 
 pub loop-sent-init : goal.loop-sent-init
 loop-sent-init g c = writes-none g.L.Listener.tells c.args.bounds c.args.sketch.now c.args.store.now c.args.notifier.now
-
-pub apply_write-requires : goal.apply_write-requires
-apply_write-requires g c p at = c.requires _ (Contains-get_or c.args.writes.now c.loop-sent.sent-index _ c.loop-sent-test.true) p (c.loop-sent.invariant.upkeep.places _ p at)
 
 pub loop-sent-preserved : goal.loop-sent-preserved
 loop-sent-preserved g c =

@@ -14,7 +14,7 @@ hit_parts : {n hash k other : ℕ} {b : Bool} → Hit n hash b ≡ Hit k other t
 hit_parts e = (cc, cc)
 
 pub move_after_read-requires : goal.move_after_read-requires
-move_after_read-requires g c = c.find.ensures.handle (sym c.is_some.ensures ∙ c.if-is_some.true)
+move_after_read-requires g c = record { handle = c.find.ensures.handle (sym c.is_some.ensures ∙ c.if-is_some.true) }
 
 pub returns-in-Miss-clause-applied : goal.returns-in-Miss-clause-applied
 returns-in-Miss-clause-applied g c = rw c.in-Miss.is refl

@@ -9,13 +9,15 @@ use Rattle.moka_maintenance.proofs.ReadsApplied.{applies-both, counted-both, loc
 use Rattle.moka_maintenance.proofs.admission.apply_reads.Goals as goal
 
 pub apply_all_reads-requires : goal.apply_all_reads-requires
-apply_all_reads-requires g c q there =
-    c.requires q (subst (λ (qs : List QueuedRead). Contains qs q) c.as_slices.ensures (Contains-append_left c.as_slices.result.0.now c.as_slices.result.1.now q there))
+apply_all_reads-requires g c =
+    record { located = λ q there. c.requires.located q (subst (λ (qs : List QueuedRead). Contains qs q) c.as_slices.ensures (Contains-append_left c.as_slices.result.0.now c.as_slices.result.1.now q there)) }
 
 pub apply_all_reads-requires-2 : goal.apply_all_reads-requires-2
-apply_all_reads-requires-2 g c q there =
-    located-on _ _ _ q c.apply_all_reads.ensures
-    (c.requires q (subst (λ (qs : List QueuedRead). Contains qs q) c.as_slices.ensures (Contains-append_right c.as_slices.result.0.now c.as_slices.result.1.now q there)))
+apply_all_reads-requires-2 g c = record {
+  located = λ q there.
+      located-on _ _ _ q c.apply_all_reads.ensures
+      (c.requires.located q (subst (λ (qs : List QueuedRead). Contains qs q) c.as_slices.ensures (Contains-append_right c.as_slices.result.0.now c.as_slices.result.1.now q there)));
+}
 
 pub returns-clause-applied : goal.returns-clause-applied
 returns-clause-applied g c =

@@ -4,6 +4,7 @@ use Rattle.moka_parts.specs.Records.{counted_of, without_member, without_number}
 use Rattle.moka_parts.proofs.AccessList.{absent_taken_out, counted_taken_out}
 use Rattle.moka_store.specs.Store.{Kept, cursor_past}
 use Rattle.moka_parts.proofs.WriteList.{unlisted_taken_out}
+use Rattle.moka_maintenance.specs.Steps.{contents_in}
 use Rattle.moka_maintenance.proofs.Upkeep.{upkeep-none, upkeep-left}
 use Rattle.moka_maintenance.proofs.Placed.{no_row, rows-unplaced, rows-forgotten}
 use Rattle.moka_maintenance.proofs.admission.apply_removal.Goals as goal
@@ -58,3 +59,12 @@ returns-then-is_none-clause-upkeep g c =
 pub returns-else-is_none-clause-upkeep : goal.returns-else-is_none-clause-upkeep
 returns-else-is_none-clause-upkeep g c =
     upkeep-left c.args.store.now c.leave.new.store c.args.handle.number c.args.store.now.room c.args.store.now.places c.leave.ensures (λ k p at. at) (omega arith)
+
+pub returns-then-is_none-clause-step : goal.returns-then-is_none-clause-step
+returns-then-is_none-clause-step g c = ap (λ (k : Kept g.row.K.Denot g.row.V.Denot g.row.S.Denot). contents_in k) c.forget.ensures.step ∙ ap (λ (k : Kept g.row.K.Denot g.row.V.Denot g.row.S.Denot). contents_in k) c.leave.ensures
+
+pub returns-else-is_none-clause-step : goal.returns-else-is_none-clause-step
+returns-else-is_none-clause-step g c = ap (λ (k : Kept g.row.K.Denot g.row.V.Denot g.row.S.Denot). contents_in k) c.leave.ensures
+
+pub returns-else-is_none-clause-written : goal.returns-else-is_none-clause-written
+returns-else-is_none-clause-written g c = λ _. ap (λ (k : Kept g.row.K.Denot g.row.V.Denot g.row.S.Denot). k.written) c.leave.ensures

@@ -33,3 +33,6 @@ returns-then-is_member g c =
     refl)
     (entered-upkeep c.args.store.now c.set_applied.new.self c.recount.new.self c.args.upsert.handle.number c.args.upsert.generation c.args.upsert.weight c.in-Some.found seen c.set_timer.new.self
     c.recount.ensures.step c.recount.ensures.counted c.set_timer.ensures.step)
+
+pub returns-else-is_member : goal.returns-else-is_member
+returns-else-is_member g c = c.admit_or_reject.ensures

@@ -1,4 +1,4 @@
-use Rattle.std.proofs.Common.{IsSome, sym, ap, subst, ◌∙◌, rules}
+use Rattle.std.proofs.Common.{IsSome, sym, ap, subst, ◌∙◌}
 use Rattle.std.specs.FinMap as finite
 use Rattle.moka_store.specs.Store.{Kept}
 use Rattle.moka_maintenance.proofs.Upkeep.{upkeep-on}
@@ -11,11 +11,13 @@ enter-requires g c =
     let rest = c.choose-chosen.ensures.rest in
     let others = c.expel_front.ensures.others n (still_apart c.args.sketch.now c.args.store.now c.choose-chosen.new.store n c.args.candidate.generation c.args.candidate.weight c.args.candidate.hash c.choose-chosen.result.victims c.choose-chosen.ensures.chosen rest c.requires.apart) in
     record {
-      handle = record {
-        placed = others.2 ∙ ap (λ (k : Kept g.row.K.Denot g.row.V.Denot g.row.S.Denot). finite.get k.places n) rest ∙ c.requires.handle.placed;
-        stored = subst IsSome (sym (others.1 ∙ ap (λ (k : Kept g.row.K.Denot g.row.V.Denot g.row.S.Denot). finite.get k.records n) rest)) c.requires.handle.stored;
+      outside = record {
+        handle = record {
+          placed = others.2 ∙ ap (λ (k : Kept g.row.K.Denot g.row.V.Denot g.row.S.Denot). finite.get k.places n) rest ∙ c.requires.handle.placed;
+          stored = subst IsSome (sym (others.1 ∙ ap (λ (k : Kept g.row.K.Denot g.row.V.Denot g.row.S.Denot). finite.get k.records n) rest)) c.requires.handle.stored;
+        };
+        apart = others.0;
       };
-      apart = others.0;
     }
 
 pub reject-requires : goal.reject-requires
@@ -23,11 +25,13 @@ reject-requires g c =
     let n = c.args.candidate.handle.number in
     let rest = c.choose-chosen.ensures.rest in
     record {
-      handle = record {
-        placed = ap (λ (k : Kept g.row.K.Denot g.row.V.Denot g.row.S.Denot). finite.get k.places n) rest ∙ c.requires.handle.placed;
-        stored = subst IsSome (sym (ap (λ (k : Kept g.row.K.Denot g.row.V.Denot g.row.S.Denot). finite.get k.records n) rest)) c.requires.handle.stored;
+      outside = record {
+        handle = record {
+          placed = ap (λ (k : Kept g.row.K.Denot g.row.V.Denot g.row.S.Denot). finite.get k.places n) rest ∙ c.requires.handle.placed;
+          stored = subst IsSome (sym (ap (λ (k : Kept g.row.K.Denot g.row.V.Denot g.row.S.Denot). finite.get k.records n) rest)) c.requires.handle.stored;
+        };
+        apart = still_apart c.args.sketch.now c.args.store.now c.choose-chosen.new.store n c.args.candidate.generation c.args.candidate.weight c.args.candidate.hash c.choose-chosen.result.victims c.choose-chosen.ensures.chosen rest c.requires.apart;
       };
-      apart = still_apart c.args.sketch.now c.args.store.now c.choose-chosen.new.store n c.args.candidate.generation c.args.candidate.weight c.args.candidate.hash c.choose-chosen.result.victims c.choose-chosen.ensures.chosen rest c.requires.apart;
     }
 
 pub returns-then-chosen-clause-compared : goal.returns-then-chosen-clause-compared
@@ -56,6 +60,3 @@ returns-then-chosen-clause-upkeep g c =
 
 pub returns-else-chosen-clause-upkeep : goal.returns-else-chosen-clause-upkeep
 returns-else-chosen-clause-upkeep g c = upkeep-on c.args.store.now c.choose-chosen.new.store c.reject.new.store (upkeep-chosen c.args.sketch.now c.args.store.now c.choose-chosen.new.store c.args.candidate.weight c.args.candidate.hash c.choose-chosen.result.victims c.choose-chosen.ensures.chosen c.choose-chosen.ensures.rest) c.reject.ensures.upkeep
-
-pub expel_front-requires : goal.expel_front-requires
-expel_front-requires g c = search rules

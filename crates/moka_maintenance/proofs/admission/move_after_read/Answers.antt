@@ -15,7 +15,7 @@ returns-then-renewed-clause-served g c =
     let step = c.move_in_access.ensures.step in
     let counted = c.move_in_access.ensures.counted in
     let n = c.args.handle.number in
-    let found = some_is (finite.get old.records n) c.requires.stored in
+    let found = some_is (finite.get old.records n) c.requires.handle.stored in
     let there = ap (λ m. finite.get m n) c.move_in_access.ensures.records ∙ found.1 in
     let set = c.set_timer.ensures.step found.0 there in
     record {

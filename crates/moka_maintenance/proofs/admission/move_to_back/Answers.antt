@@ -2,11 +2,12 @@ use Rattle.std.proofs.Common.{◌++◌, [], ◌∷◌, true≢false, sym, ap, re
 use Rattle.std.proofs.lemmas.Bool.{cond-false}
 use Rattle.std.specs.FinMap as finite
 use Rattle.moka_parts.specs.Records.{is_listed, without_number}
+use Rattle.moka_store.specs.Store.{Kept}
 use Rattle.moka_store.proofs.Gets.{none_by_test, some_is}
 use Rattle.moka_store.proofs.KnownOrders.{off-cursor}
 use Rattle.moka_store.proofs.Members.{absent_to_back}
 use Rattle.moka_maintenance.proofs.Timing.{stands-set}
-use Rattle.moka_maintenance.proofs.Upkeep.{untimed-moved, upkeep-on, upkeep-timed}
+use Rattle.moka_maintenance.proofs.Upkeep.{untimed-moved, upkeep-none, upkeep-on, upkeep-timed}
 use Rattle.moka_maintenance.proofs.admission.move_to_back.Goals as goal
 
 pub returns-then-is_member-clause-upkeep : goal.returns-then-is_member-clause-upkeep
@@ -35,3 +36,9 @@ returns-then-is_member-clause-timer g c =
 
 pub returns-else-is_member-clause-timer : goal.returns-else-is_member-clause-timer
 returns-else-is_member-clause-timer g c = λ kept r there is_in. absurd (true≢false (sym is_in ∙ sym c.is_member.ensures.member ∙ c.if-is_member.false))
+
+pub returns-then-is_member-clause-step : goal.returns-then-is_member-clause-step
+returns-then-is_member-clause-step g c = c.set_timer.ensures.rest ∙ ap (λ (k : Kept g.row.K.Denot g.row.V.Denot g.row.S.Denot). record k { timers = c.set_timer.new.self.timers }) c.move_to_back.ensures.step
+
+pub returns-else-is_member-clause-upkeep : goal.returns-else-is_member-clause-upkeep
+returns-else-is_member-clause-upkeep g c = upkeep-none c.args.store.now

@@ -117,3 +117,9 @@ returns-else-weights-weight-clause-chosen g c =
     subst (Chooses k c.args.weight c.args.hash l.store.access l.victims) (ap (λ b. b && nat_lt l.frequencies (frequency c.args.sketch.now c.args.hash)) not_heavy ∙ sym not_heavy)
     (subst (λ w. Chooses k w c.args.hash l.store.access l.victims (nat_le c.from-weight.result l.weights && nat_lt l.frequencies (frequency c.args.sketch.now c.args.hash))) c.from-weight.ensures
     (walks-over k c.from-weight.result c.args.hash c.invariant_holds.ensures.distinct l.invariant.walks over))
+
+pub returns-then-weights-weight-clause-rest : goal.returns-then-weights-weight-clause-rest
+returns-then-weights-weight-clause-rest g c = c.loop-weights.invariant.rest
+
+pub returns-else-weights-weight-clause-rest : goal.returns-else-weights-weight-clause-rest
+returns-else-weights-weight-clause-rest g c = c.loop-weights.invariant.rest

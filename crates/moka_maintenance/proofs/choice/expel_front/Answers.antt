@@ -19,8 +19,8 @@ use Rattle.moka_store.proofs.Gets.{get-past_remove}
 use Rattle.moka_maintenance.specs.Steps.{Stock, contents_in, Told}
 use Rattle.moka_maintenance.specs.Chosen.{AreSettled}
 use Rattle.moka_maintenance.proofs.Popped.{none_first}
-use Rattle.moka_maintenance.proofs.Upkeep.{untimed-on}
-use Rattle.moka_maintenance.proofs.Told.{told-on}
+use Rattle.moka_maintenance.proofs.Upkeep.{untimed-none, untimed-on}
+use Rattle.moka_maintenance.proofs.Told.{told-none, told-on}
 use Rattle.moka_maintenance.proofs.choice.expel_front.Goals as goal
 
 -- ---- the front members leave, one after the other
@@ -99,6 +99,17 @@ module _ {K V : Type 0} (c d : Contents K V) (a : Member) (left : ℕ) (once : I
 
 -- ---- the answers
 
+pub loop-left-init : goal.loop-left-init
+loop-left-init g c = record {
+  settled = c.requires;
+  once = c.invariant_holds.ensures.distinct;
+  step = refl;
+  written = refl;
+  told = λ m rest. rest;
+  others = λ n none. (none, refl, refl);
+  upkeep = untimed-none c.args.store.now;
+}
+
 pub loop-left-preserved : goal.loop-left-preserved
 loop-left-preserved g c =
     let inv = c.loop-left.invariant in
@@ -130,6 +141,21 @@ returns-in_default-clause-written g c =
     let empty = none_taken l.left l.store.access (none_first l.store.access c.in_default.ensures.front) in
     sym (ap (λ xs. without_numbers xs l.store.written) empty) ∙ l.invariant.written
 
+pub returns-in_default-clause-step : goal.returns-in_default-clause-step
+returns-in_default-clause-step g c =
+    let l = c.loop-left in
+    let empty = none_taken l.left l.store.access (none_first l.store.access c.in_default.ensures.front) in
+    sym (ap (λ xs. without_victims xs (contents_in l.store)) empty) ∙ l.invariant.step
+
+pub returns-in_default-clause-told : goal.returns-in_default-clause-told
+returns-in_default-clause-told g c =
+    let l = c.loop-left in
+    let empty = none_taken l.left l.store.access (none_first l.store.access c.in_default.ensures.front) in
+    l.invariant.told l.notifier (subst (λ (xs : List Member). Told g.L.Listener.tells l.notifier (left_with xs l.store.records) l.notifier) (sym empty) (told-none g.L.Listener.tells l.notifier))
+
+pub returns-in_default-clause-others : goal.returns-in_default-clause-others
+returns-in_default-clause-others g c = c.loop-left.invariant.others
+
 pub returns-in_default-clause-upkeep : goal.returns-in_default-clause-upkeep
 returns-in_default-clause-upkeep g c = c.loop-left.invariant.upkeep
 
@@ -138,6 +164,21 @@ returns-clause-written g c =
     let l = c.loop-left in
     let over : l.left ≡ 0 = (let e = c.loop-left-test.false in omega arith) in
     sym (ap (λ k. without_numbers (take k l.store.access) l.store.written) over) ∙ l.invariant.written
+
+pub returns-clause-step : goal.returns-clause-step
+returns-clause-step g c =
+    let l = c.loop-left in
+    let over : l.left ≡ 0 = (let e = c.loop-left-test.false in omega arith) in
+    sym (ap (λ k. without_victims (take k l.store.access) (contents_in l.store)) over) ∙ l.invariant.step
+
+pub returns-clause-told : goal.returns-clause-told
+returns-clause-told g c =
+    let l = c.loop-left in
+    let over : l.left ≡ 0 = (let e = c.loop-left-test.false in omega arith) in
+    l.invariant.told l.notifier (subst (λ (k : ℕ). Told g.L.Listener.tells l.notifier (left_with (take k l.store.access) l.store.records) l.notifier) (sym over) (told-none g.L.Listener.tells l.notifier))
+
+pub returns-clause-others : goal.returns-clause-others
+returns-clause-others g c = c.loop-left.invariant.others
 
 pub returns-clause-upkeep : goal.returns-clause-upkeep
 returns-clause-upkeep g c = c.loop-left.invariant.upkeep

@@ -1,9 +1,11 @@
-use Rattle.std.proofs.Common.{◌≡◌, ℕ, ◌+◌, subst, arith, ap, ◌∙◌}
+use Rattle.std.proofs.Common.{◌≡◌, ℕ, ◌+◌, subst, arith, ap, sym, ◌∙◌}
 use Rattle.std.specs.FinMap as finite
 use Rattle.moka_store.specs.Store.{Kept}
 use Rattle.moka_store.proofs.Gets.{get-removed}
 use Rattle.moka_maintenance.specs.Steps.{stock_in}
 use Rattle.moka_maintenance.specs.Sweeps.{ExpiresDue}
+use Rattle.moka_maintenance.specs.Timers.{HasNoneDue}
+use Rattle.moka_maintenance.specs.Upkeep.{Upkeep}
 use Rattle.moka_maintenance.proofs.Expiring.{expires-none, expires-on, expires-few, upkeep-due, fewer-due}
 use Rattle.moka_maintenance.proofs.Upkeep.{upkeep-none, upkeep-on}
 use Rattle.moka_maintenance.proofs.due.expire_due.Goals as goal
@@ -58,4 +60,17 @@ loop-handle-preserved g c =
     record {
       expired = subst (λ (k : ℕ). ExpiresDue g.L.Listener.tells c.args.tests (stock_in c.args.store.now) (stock_in new) c.args.notifier.now c.expire.new.notifier k) same (expires-on g.L.Listener.tells c.args.tests (stock_in c.args.store.now) (stock_in old) (stock_in new) c.args.notifier.now c.loop-handle.notifier c.expire.new.notifier c.loop-handle.removed 0 inv.expired (rw (← ap stock_in step) c.if-expire.ensures.expired));
       upkeep = upkeep-on c.args.store.now old new inv.upkeep (upkeep-due c.args.tests.now.0 c.in-Some.handle.number old new (rw step at c.if-expire.ensures.reset));
+    }
+
+pub returns-clause-expired : goal.returns-clause-expired
+returns-clause-expired g c =
+    subst (λ (k : Kept g.row.K.Denot g.row.V.Denot g.row.S.Denot). ExpiresDue g.L.Listener.tells c.args.tests (stock_in c.args.store.now) (stock_in k) c.args.notifier.now c.loop-handle.notifier c.loop-handle.removed) (sym c.in_default.ensures.unchanged)
+    c.loop-handle.invariant.expired
+
+pub returns-clause-kept : goal.returns-clause-kept
+returns-clause-kept g c =
+    let same = sym c.in_default.ensures.unchanged in
+    record {
+      upkeep = subst (λ (k : Kept g.row.K.Denot g.row.V.Denot g.row.S.Denot). Upkeep c.args.store.now k) same c.loop-handle.invariant.upkeep;
+      none = subst (λ (k : Kept g.row.K.Denot g.row.V.Denot g.row.S.Denot). HasNoneDue c.args.tests.now.0 k) same c.in_default.ensures.none;
     }

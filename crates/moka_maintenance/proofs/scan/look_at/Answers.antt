@@ -38,6 +38,3 @@ returns-else-apply_predicates g c =
         λ r is. (let there : Some c.in-Some.found ≡ Some r = sym found ∙ is in subst (NoneCovers g.P.PredicateFn.says c.args.invalidator.now) (same_Some _ _ there) c.if-apply_predicates.ensures),
       ),
     )
-
-pub expel-requires : goal.expel-requires
-expel-requires g c = c.in-Some.ensures.handle refl

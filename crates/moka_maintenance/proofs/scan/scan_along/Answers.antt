@@ -84,11 +84,6 @@ next_written-next-requires g c =
     let here = subst (λ o. IfSome o (IsOrdered c.loop-passed.store)) c.in-Some.is c.loop-passed.invariant.ordered in
     record { placed = here.placed; member = here.member }
 
-pub look_at-requires : goal.look_at-requires
-look_at-requires g c =
-    let here = subst (λ o. IfSome o (IsOrdered c.loop-passed.store)) c.in-Some.is c.loop-passed.invariant.ordered in
-    record { placed = here.placed; member = here.member }
-
 pub set_cursor-requires : goal.set_cursor-requires
 set_cursor-requires g c = record {
   placed = next_placed c.loop-passed.store c.loop-passed.next c.loop-passed.invariant.ordered;

@@ -42,6 +42,3 @@ returns-clause-upkeep g c = c.expel.ensures.upkeep
 
 pub move_to_back-requires : goal.move_to_back-requires
 move_to_back-requires g c = record { placed = c.in-Some.ensures.0.placed; member = c.in-Some.ensures.0.member }
-
-pub expel-requires : goal.expel-requires
-expel-requires g c = c.in-Some-find.ensures.handle refl

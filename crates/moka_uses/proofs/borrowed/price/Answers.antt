@@ -7,7 +7,7 @@ use Rattle.moka_engine.specs.parts.OutOfMemory.{OutOfMemory}
 use Rattle.moka_engine.specs.Copies.{IsCopiedAnswer}
 use Rattle.moka_engine.specs.Runs.{Engine}
 use Rattle.moka_engine.specs.State.{Meaning}
-use Rattle.moka_drive.specs.Synchronous.{GetsValue, Makes}
+use Rattle.moka_cache.specs.Synchronous.{GetsValue, Makes}
 use Rattle.moka_uses.specs.Made.{LooksUp, plain_meaning}
 use Rattle.moka_engine.specs.KeyTests.{record_by}
 use Rattle.moka_engine.specs.Visibility.{IsShown}

@@ -4,7 +4,7 @@ use Rattle.moka_engine.specs.parts.InsertRefused.{InsertRefused}
 use Rattle.moka_engine.specs.parts.Instant.{Instant}
 use Rattle.moka_engine.specs.Runs.{Engine}
 use Rattle.moka_engine.specs.State.{Meaning}
-use Rattle.moka_drive.specs.Synchronous.{InsertsEntry, Makes}
+use Rattle.moka_cache.specs.Synchronous.{InsertsEntry, Makes}
 use Rattle.moka_uses.specs.Handled.{InsertsOrRetries}
 use Rattle.moka_uses.specs.Made.{plain_meaning}
 use Rattle.moka_uses.proofs.handled.put.Goals as goal

@@ -4,10 +4,10 @@ use Rattle.moka_engine.specs.parts.Instant.{Instant}
 use Rattle.moka_engine.specs.parts.OutOfMemory.{OutOfMemory}
 use Rattle.moka_engine.specs.Copies.{IsCopiedAnswer}
 use Rattle.moka_engine.specs.State.{Meaning}
-use Rattle.moka_drive.specs.declared.error.GetWithRefused.{GetWithRefused}
-use Rattle.moka_drive.specs.declared.error.GetWithRefused.TheVariants.{Lookup}
-use Rattle.moka_drive.specs.Given.{ComesBack, Sees}
-use Rattle.moka_drive.specs.Synchronous.{GetsValue, GetsWith, Makes, Synchronous}
+use Rattle.moka_cache.specs.declared.error.GetWithRefused.{GetWithRefused}
+use Rattle.moka_cache.specs.declared.error.GetWithRefused.TheVariants.{Lookup}
+use Rattle.moka_cache.specs.Given.{ComesBack, Sees}
+use Rattle.moka_cache.specs.Synchronous.{GetsValue, GetsWith, Makes, Synchronous}
 use Rattle.moka_uses.specs.Handled.{GoesOnAfter, ReadsThroughOrRetries, found_or_refused}
 use Rattle.moka_uses.specs.Made.{plain_meaning}
 use Rattle.moka_uses.proofs.handled.value_or_made.Goals as goal

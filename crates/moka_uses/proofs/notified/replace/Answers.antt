@@ -4,9 +4,9 @@ use Rattle.moka_engine.specs.Time.{greatest}
 use Rattle.std.specs.Cmp.{nat_eq_equiv}
 use Rattle.moka_uses.proofs.Sent.{hands_out, put_and_sent, sends}
 use Rattle.moka_uses.proofs.Told.{told_of_the_first, heard_of_the_second}
-use Rattle.moka_drive.specs.Unsent.{IsHeld}
-use Rattle.moka_drive.proofs.Put.{kept_where_held, put_by_insert}
-use Rattle.moka_drive.proofs.Stays.{send_holds}
+use Rattle.moka_cache.specs.Unsent.{IsHeld}
+use Rattle.moka_cache.proofs.Put.{kept_where_held, put_by_insert}
+use Rattle.moka_cache.proofs.Stays.{send_holds}
 use Rattle.moka_uses.specs.declared.notified.Counter.{Counter}
 use Rattle.moka_uses.proofs.notified.replace.Goals as goal
 

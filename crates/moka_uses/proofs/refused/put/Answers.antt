@@ -1,6 +1,6 @@
 use Rattle.std.proofs.Common.{◌≡◌, ◌==◌, None, subst}
 use Rattle.std.specs.Cmp.{nat_eq_equiv}
-use Rattle.moka_drive.proofs.Put.{kept_where_held, put_by_insert}
+use Rattle.moka_cache.proofs.Put.{kept_where_held, put_by_insert}
 use Rattle.moka_uses.specs.Made.{engine_meaning}
 use Rattle.moka_uses.specs.Refused.{SendsAfterAll}
 use Rattle.moka_uses.proofs.Sent.{hands_out}

@@ -1,5 +1,5 @@
 use Rattle.std.proofs.Common.{◌≡◌, arith, rules}
-use Rattle.moka_drive.specs.Given.{ComesBack}
+use Rattle.moka_cache.specs.Given.{ComesBack}
 use Rattle.moka_uses.specs.Visits.{PutsCount, RefusesCount, meaning, next_count}
 use Rattle.moka_uses.proofs.Visited.{counted, goes_on, renamed}
 use Rattle.moka_uses.proofs.visits.count.Goals as goal

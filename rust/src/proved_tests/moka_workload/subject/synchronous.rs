@@ -4,7 +4,7 @@ use crate::support::prelude::*;
 use super::Subject;
 use crate::proved_tests::moka_workload::config::Config;
 use crate::proved_tests::moka_workload::engines::engine_of;
-use crate::engine::moka_drive::Cache;
+use crate::engine::moka_cache::Cache;
 use crate::engine::moka_parts::closures::{NoPredicate, NoWeigher};
 use crate::engine::moka_parts::error::OutOfMemory;
 use crate::engine::moka_parts::housekeeper::FixedClock;

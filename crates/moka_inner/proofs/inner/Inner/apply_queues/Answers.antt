@@ -11,7 +11,7 @@ use Rattle.moka_inner.proofs.InnerLemmas.{read_at, inner-applied}
 use Rattle.moka_inner.proofs.inner.Inner.apply_queues.Goals as goal
 
 pub apply_reads-requires : goal.apply_reads-requires
-apply_reads-requires g c = λ q there. read_at c.self.inside.store.places c.self.inside.next_number q.place (read_of q) (c.self.invariant.located.seen q there)
+apply_reads-requires g c = record { located = λ q there. read_at c.self.inside.store.places c.self.inside.next_number q.place (read_of q) (c.self.invariant.located.seen q there) }
 
 pub invariant_of-self : goal.invariant_of-self
 invariant_of-self g c =

@@ -13,3 +13,9 @@ invariant_of-self g c =
 
 pub returns-clause-timers : goal.returns-clause-timers
 returns-clause-timers g c = subst (λ (i : Interior g.row.K.Denot g.row.V.Denot g.row.S.Denot). KeepsTimers i.kept c.make_passes.new.store) c.self.view_is c.make_passes.ensures.kept.upkeep.timers
+
+pub returns-clause-none : goal.returns-clause-none
+returns-clause-none g c = c.make_passes.ensures.kept.none
+
+pub returns-clause-ran : goal.returns-clause-ran
+returns-clause-ran g c = rw (← c.self.view_is) c.make_passes.ensures.ran

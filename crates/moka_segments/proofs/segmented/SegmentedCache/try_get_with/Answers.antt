@@ -7,7 +7,7 @@ use Rattle.moka_segments.proofs.segmented.SegmentedCache.try_get_with.Goals as g
 
 pub try_get_with-requires : goal.try_get_with-requires
 try_get_with-requires g c = record {
-  callable = c.requires.callable c.index_mut.result.now (at_place (λ r. segment_of r.count (key_hash g.S.BuildHasher g.S.Hasher.Hasher r.hasher (g.K.Hash.hash_input c.args.key))) c.self.view_is c.segment_of-index.ensures.place (rw c.self.invariant c.segment_of-index.ensures.within)
+  callable = c.requires.callable.at c.index_mut.result.now (at_place (λ r. segment_of r.count (key_hash g.S.BuildHasher g.S.Hasher.Hasher r.hasher (g.K.Hash.hash_input c.args.key))) c.self.view_is c.segment_of-index.ensures.place (rw c.self.invariant c.segment_of-index.ensures.within)
       c.index_mut.result.now c.index_mut.ensures.value);
 }
 

@@ -1,4 +1,4 @@
-use Rattle.std.proofs.Common.{Some, None, sym, ap, ◌∙◌, ◌≡◌, is_some}
+use Rattle.std.proofs.Common.{arith, Some, None, sym, ap, ◌∙◌, ◌≡◌, is_some}
 use Rattle.std.specs.Option.{option_map, option_and_then}
 use Rattle.moka_store.specs.RecordTable.{membership_at}
 use Rattle.moka_store.specs.ColdParts.{cold_at}
@@ -27,3 +27,15 @@ returns-clause-membership g c =
 
 pub returns-clause-slots : goal.returns-clause-slots
 returns-clause-slots g c = rw c.counted_as.ensures (record { access = c.in_ok-found.ensures.slots.access; written = c.in_ok-found.ensures.slots.written })
+
+pub index-requires : goal.index-requires
+index-requires g c =
+    let is : membership_at c.self.inside.rows.rows c.args.place ≡ Some c.in_ok-found.found = sym (c.in_ok-found.ensures.membership ∙ ap (option_and_then (λ row. row.membership)) c.in_ok-at.ensures) in
+    let w = member_row c.self.inside.rows.rows c.args.place (ap is_some is) in
+    omega (arith, place_within c.self.inside.rows c.self.inside.cold.items _ _ c.self.invariant c.args.place w.0 w.2)
+
+pub returns-in_err-at-clause-slots : goal.returns-in_err-at-clause-slots
+returns-in_err-at-clause-slots g c = rw c.from_residual.ensures tt
+
+pub returns-in_err-found-clause-slots : goal.returns-in_err-found-clause-slots
+returns-in_err-found-clause-slots g c = rw c.from_residual-in_err-found.ensures tt

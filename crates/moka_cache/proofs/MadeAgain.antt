@@ -1,0 +1,170 @@
+-- A cache made again of what was saved of another answers as that one does.
+use Rattle.std.proofs.Common.{◌≡◌, refl, ℕ, ◌<◌, ◌≤◌, ◌==◌, Bool, true, false, List, [], ◌∷◌, Option, Some, None, ap, sym, subst, ◌∙◌, inl, inr, arith, true≢false}
+use Rattle.std.specs.Prelude.{Contains}
+use Rattle.std.specs.Cmp.{IsEquivalence}
+use Rattle.std.specs.FinMap.{get}
+use Rattle.std.specs.List.{IsDistinct, sum_by}
+use Rattle.std.proofs.lemmas.List.Elements.{Contains-append_left, Contains-append_right, Contains-append_cases, Contains-push, Contains-push_cases}
+use Rattle.std.proofs.lemmas.Option.{same_Some}
+use Rattle.moka_parts.specs.declared.records.Member.{Member}
+use Rattle.moka_parts.specs.declared.records.Operation.TheVariants.{Upsert}
+use Rattle.moka_parts.specs.declared.records.Record.{Record}
+use Rattle.moka_parts.specs.Copies.{ClonesAreEqual}
+use Rattle.moka_parts.specs.Exact.{weight_of_records}
+use Rattle.moka_parts.specs.Records.{counted_of, is_member, numbers_of}
+use Rattle.moka_parts.specs.Settling.{IsValid}
+use Rattle.moka_parts.specs.State.{State, Settings}
+use Rattle.moka_parts.specs.Time.{has_passed, deadline, moment_of}
+use Rattle.moka_parts.specs.Visibility.{is_expired, is_past_live, is_past_idle, is_written_before, is_read_before, IsVisible}
+use Rattle.moka_parts.proofs.Contained.{not_both}
+use Rattle.moka_parts.proofs.Lookup.{record_of_key_found, present_key}
+use Rattle.moka_parts.proofs.Maps.{same_by_test, nothing_at}
+use Rattle.moka_parts.proofs.OrderKept.{of_each}
+use Rattle.moka_parts.proofs.Values.{values-empty}
+use Rattle.moka_parts.proofs.Surplus.{none_of_five}
+use Rattle.moka_engine.specs.declared.base_cache.restores.Restored.{Restored}
+use Rattle.moka_engine.specs.Snapshots.{Seen, IsListed, scene_of}
+use Rattle.moka_cache.specs.Saved.{AreAsWeighed, AreSaved, IsOfItem, IsSaved, IsRestored, HasRoomFor, IsMadeAgain, IsSeen, AnswerAlike, MadeAgainAnswersAlike, EmptyHasRoom, has_expired}
+use Rattle.moka_cache.proofs.Answering.{answers_alike}
+use Rattle.moka_cache.proofs.Membership.{none_waits}
+
+-- ---- what has not expired had not expired before
+
+not_passed_before : (o : Option ℕ) (t u : ℕ) → t ≤ u → has_passed o u ≡ false → has_passed o t ≡ false
+not_passed_before None t u le none = refl
+not_passed_before (Some d) t u le none = grind arith
+
+-- the entry was saved of the record
+record IsSavedOf {K V : Type 0} (is_value_clone : V → V → Type 0) (r : Record K V) (item : Restored K V) : Type 0 where
+  key : item.key ≡ r.key
+  value : is_value_clone r.value item.value
+  written : item.last_modified ≡ r.written
+  read : item.last_accessed ≡ r.read
+  expires : item.expires ≡ r.expires
+
+module _ {K V X P W : Type 0} (weighs : W → K → V → ℕ → Type 0) (eq : K → K → Bool) (laws : IsEquivalence eq) (says : P → K → V → Bool → Type 0) (is_key_clone : K → K → Type 0) (is_value_clone : V → V → Type 0) (equal : ClonesAreEqual is_key_clone) where
+  visible_before : (s : State K V X P W) (r : Record K V) (t u : ℕ) → t ≤ u → IsVisible says s r u → IsVisible says s r t
+  visible_before s r t u le visible =
+      let none = none_of_five (is_expired r u) (is_past_live s.settings r u) (is_past_idle s.settings r u) (is_written_before s.invalid_before r) (is_read_before s.invalid_before r) visible.0 in (
+        rw (not_passed_before (moment_of r.expires) t u le none.0, not_passed_before (deadline s.settings.time_to_live r.written.0) t u le none.1, not_passed_before (deadline s.settings.time_to_idle r.read.0) t u le none.2, none.3, none.4) refl,
+        visible.1,
+      )
+
+  -- it has not expired at a moment at which the record is visible
+  unexpired : (first second : State K V X P W) (r : Record K V) (item : Restored K V) (t u : ℕ) → t ≤ u → second.settings.time_to_live ≡ first.settings.time_to_live → second.settings.time_to_idle ≡ first.settings.time_to_idle → IsSavedOf is_value_clone r item → IsVisible says first r u → has_expired second.settings t item ≡ false
+  unexpired first second r item t u le live idle of visible =
+      let none = none_of_five (is_expired r u) (is_past_live first.settings r u) (is_past_idle first.settings r u) (is_written_before first.invalid_before r) (is_read_before first.invalid_before r) visible.0 in
+      rw (live, idle, of.written, of.read, of.expires, not_passed_before (moment_of r.expires) t u le none.0, not_passed_before (deadline first.settings.time_to_live r.written.0) t u le none.1, not_passed_before (deadline first.settings.time_to_idle r.read.0) t u le none.2) refl
+
+  module _ (first : State K V X P W) (saved : ℕ) where
+    abbrev Saved : List Member → List (Restored K V) → Type 0
+    Saved members items = AreSaved says is_key_clone is_value_clone (scene_of first saved) members items
+
+    saved_of : (a : Member) (seen : Seen K V) (item : Restored K V) → (listed : IsListed says (scene_of first saved) a seen) → IsSaved is_key_clone is_value_clone seen item → IsSavedOf is_value_clone listed.kept item
+    saved_of a seen item listed is = record {
+      key = equal seen.key item.key is.key ∙ ap (λ (x : Seen K V). x.key) listed.same;
+      value = subst (λ (x : Seen K V). is_value_clone x.value item.value) listed.same is.value;
+      written = is.written ∙ ap (λ (x : Seen K V). x.written) listed.same;
+      read = is.read ∙ ap (λ (x : Seen K V). x.read) listed.same;
+      expires = is.expires ∙ ap (λ (x : Seen K V). x.expires) listed.same;
+    }
+
+    -- a visible record of a member has its entry
+    item_of : (n : ℕ) (r : Record K V) → get first.records n ≡ Some r → IsVisible says first r saved → (members : List Member) (items : List (Restored K V)) → is_member n members ≡ true → Saved members items → (item : Restored K V) × Contains items item × IsSavedOf is_value_clone r item
+    item_of n r there visible [] items member all = absurd (true≢false (sym member))
+    item_of n r there visible (a ∷ members) items member all = go (item_of n r there visible members) (a.number == n) refl all
+      where
+        later : (a.number == n) ≡ false → is_member n members ≡ true
+        later other = rw other at member
+
+        go : ((rest : List (Restored K V)) → is_member n members ≡ true → Saved members rest → (item : Restored K V) × Contains rest item × IsSavedOf is_value_clone r item) → (b : Bool) → (a.number == n) ≡ b → Saved (a ∷ members) items → (item : Restored K V) × Contains items item × IsSavedOf is_value_clone r item
+        go next true same (inl (passed, rest)) = absurd (not_both says first r saved (passed r (ap (get first.records) (same_by_test a.number n same) ∙ there)) visible)
+        go next true same (inr (seen, item, rest, is, listed, saved_item, more)) =
+            let one : listed.kept ≡ r = same_Some listed.kept r (sym listed.there ∙ ap (get first.records) (same_by_test a.number n same) ∙ there) in
+            (item, subst (λ xs. Contains xs item) (sym is) (Contains-append_left (item ∷ []) rest item (Contains-push [] item)), subst (λ x. IsSavedOf is_value_clone x item) one (saved_of a seen item listed saved_item))
+        go next false other (inl (passed, rest)) = next items (later other) rest
+        go next false other (inr (seen, item, rest, is, listed, saved_item, more)) =
+            let found = next rest (later other) more in
+            (found.0, subst (λ xs. Contains xs found.0) (sym is) (Contains-append_right (item ∷ []) rest found.0 found.1), found.2)
+
+    -- an entry was saved of a record that was visible
+    record_of : (members : List Member) (items : List (Restored K V)) (item : Restored K V) → Saved members items → Contains items item → (n : ℕ) × (r : Record K V) × (get first.records n ≡ Some r) × IsVisible says first r saved × IsSavedOf is_value_clone r item
+    record_of [] items item none inside = (let below : (subst (λ xs. Contains xs item) none inside).0 < 0 = (subst (λ xs. Contains xs item) none inside).1 in absurd (omega arith))
+    record_of (a ∷ members) items item (inl (passed, rest)) inside = record_of members items item rest inside
+    record_of (a ∷ members) items item (inr (seen, own, rest, is, listed, saved_item, more)) inside = elim (Contains-append_cases (own ∷ []) rest item (subst (λ xs. Contains xs item) is inside)) [
+      | inl only ↦ elim (Contains-push_cases [] own item only) [
+        | inl none ↦ let below : none.0 < 0 = none.1 in absurd (omega arith)
+        | inr e ↦ (a.number, listed.kept, listed.there, listed.shown, subst (IsSavedOf is_value_clone listed.kept) e (saved_of a seen own listed saved_item))
+      ]
+      | inr behind ↦ record_of members rest item more behind
+    ]
+
+  answer_alike : (saved put : ℕ) (items : List (Restored K V)) (first start second : State K V X P W) → IsValid eq first → IsValid eq second → IsMadeAgain weighs eq says is_key_clone is_value_clone saved put items first start second →
+      (key : K) (now : ℕ) → saved ≤ now → put ≤ now → AnswerAlike eq says is_value_clone first second key now
+  answer_alike saved put items first start second valid_first valid_second d key now late_saved late_put = record { forth = forth; back = back }
+    where
+      live : second.settings.time_to_live ≡ first.settings.time_to_live
+      live = ap (λ (x : Settings X W). x.time_to_live) d.hides.settings ∙ d.time_to_live
+
+      idle : second.settings.time_to_idle ≡ first.settings.time_to_idle
+      idle = ap (λ (x : Settings X W). x.time_to_idle) d.hides.settings ∙ d.time_to_idle
+
+      alike : (r q : Record K V) (item : Restored K V) → IsSavedOf is_value_clone r item → IsOfItem item q → IsVisible says first r saved → (IsVisible says first r now → IsVisible says second q now) × (IsVisible says second q now → IsVisible says first r now)
+      alike r q item of put_back visible =
+          answers_alike X W says first second r q saved now live idle (d.hides.bound ∙ d.roomy.bound) (d.hides.predicates d.roomy.predicates)
+          (put_back.written_is ∙ of.written) (put_back.read_is ∙ of.read) (put_back.expires_is ∙ of.expires) visible
+
+      forth : (r : Record K V) → IsSeen eq says first key now r → (q : Record K V) × IsSeen eq says second key now q × is_value_clone r.value q.value
+      forth r (found, visible) =
+          let at = record_of_key_found eq first.records key r found in
+          let seen = visible_before first r saved now late_saved visible in
+          let (item, inside, of) = item_of first saved at.0 r at.1 seen first.access items (d.all_saved at.0 r at.1) d.items_saved in
+          let restored : IsRestored eq second item = of_each _ items (d.there d.roomy) item inside (unexpired first start r item put now late_put d.time_to_live d.time_to_idle of visible) in
+          let q = restored.kept in
+          let place = record_of_key_found eq second.records item.key q restored.found in
+          let same_key : eq key q.key ≡ true = ap (eq key) (restored.of_item.key_is ∙ of.key) ∙ at.2 in (
+            q,
+            (present_key eq second.records key laws valid_second.numbered.numbered.one_each place.0 q place.1 same_key, (alike r q item of restored.of_item seen).0 visible),
+            subst (is_value_clone r.value) (sym restored.of_item.value_is) of.value,
+          )
+
+      back : (q : Record K V) → IsSeen eq says second key now q → (r : Record K V) × IsSeen eq says first key now r × is_value_clone r.value q.value
+      back q (found, visible) = elim (d.adds at.0 q at.1) [
+        | inl (r, old, same) ↦ absurd (nothing_at at.0 r (ap (λ records. get records at.0) (sym d.no_records) ∙ old))
+        | inr (item, inside, put_back) ↦
+            let (n, r, there, seen, of) = record_of first saved first.access items item d.items_saved inside in
+            let same_key : eq key r.key ≡ true = ap (eq key) (sym of.key ∙ sym put_back.key_is) ∙ at.2 in (
+              r,
+              (present_key eq first.records key laws valid_first.numbered.numbered.one_each n r there same_key, (alike r q item of put_back seen).1 visible),
+              subst (is_value_clone r.value) (sym put_back.value_is) of.value,
+            )
+      ]
+        where
+          at : (n : ℕ) × (get second.records n ≡ Some q) × (eq key q.key ≡ true)
+          at = record_of_key_found eq second.records key q found
+
+pub made_again_answers_alike : {K V P W : Type 0} (X : Type 0) (weighs : W → K → V → ℕ → Type 0) (eq : K → K → Bool) → IsEquivalence eq → (says : P → K → V → Bool → Type 0) (is_key_clone : K → K → Type 0) (is_value_clone : V → V → Type 0) → MadeAgainAnswersAlike X weighs eq says is_key_clone is_value_clone
+made_again_answers_alike X weighs eq laws says is_key_clone is_value_clone equal = answer_alike {X = X} weighs eq laws says is_key_clone is_value_clone equal
+
+-- ---- room in an empty cache
+
+no_members_once : IsDistinct (◌==◌) (numbers_of [])
+unfolding IsDistinct
+no_members_once = tt
+
+pub empty_has_room : {K V W : Type 0} (X P : Type 0) (weighs : W → K → V → ℕ → Type 0) → EmptyHasRoom X P weighs
+empty_has_room {K} {V} {W} X P weighs items start capacity total none bound predicates is enabled weigh fits = record {
+  room = subst (λ o. HasRoomFor weighs o items start) (sym is) (enabled, weighed, (total, weigh, omega (arith, light, fits)));
+  bound = bound;
+  predicates = predicates;
+}
+  where
+    light : weight_of_records start.records ≡ 0
+    light = ap weight_of_records none.records ∙ ap (sum_by (λ (r : Record K V). r.weight)) values-empty
+
+    weighed : AreAsWeighed start
+    weighed = record {
+      once = subst (λ members. IsDistinct (◌==◌) (numbers_of members)) (sym none.access) no_members_once;
+      counted = λ n w counted. (let nobody : None ≡ Some w = ap (counted_of n) (sym none.access) ∙ counted in absurd (cc));
+      waiting = λ n g w hash waits. absurd (none_waits start none.outstanding none.writes (Upsert n g w hash) waits);
+    }

@@ -1,0 +1,78 @@
+use Rattle.std.proofs.Common.{◌≡◌, false, ◌∙◌, refl, sym, subst, ℕ, Option, Some, None, Ok, Err}
+use Rattle.std.specs.Prelude.{IfSome, Result}
+use Rattle.moka_parts.specs.declared.error.OutOfMemory.{OutOfMemory}
+use Rattle.moka_parts.specs.Hashing.{key_hash}
+use Rattle.moka_parts.proofs.Options.{none_by_test}
+use Rattle.moka_cache.specs.declared.compute.CompResult.TheVariants.{StillNone, Unchanged}
+use Rattle.moka_cache.specs.Computing.{Computed, HandsOutComputedPut, HandsOutLeft, Left, LeftNone, Puts, Takes}
+use Rattle.moka_cache.specs.Synchronous.{GetsValue}
+use Rattle.moka_cache.proofs.Computing.{computed_put, computed_take, heard, was_seen}
+use Rattle.moka_cache.proofs.cache.Cache.compute_with.Goals as goal
+
+same_takes : {K V : Type 0} (a b : Option (V × Result (Unit {0}) OutOfMemory)) → ◌≡◌ {A = Option (Computed K V)} (Some (Takes a)) (Some (Takes b)) → a ≡ b
+same_takes a b e = cc
+
+pub returns-in_default : goal.returns-in_default
+returns-in_default g c =
+    let hash_by : g.row.S.Denot → ℕ = λ h. key_hash g.S.BuildHasher g.S.Hasher.Hasher h (g.K.Hash.hash_input c.args.key) in
+    let got = c.in_default.ensures.made in
+    (got.0, Err c.in_default.field-0, got.1, None, tt, refl, heard g.K.Clone.is_clone g.V.Clone.is_clone _ (GetsValue c.args.key (hash_by c.args.self.now.engine.hasher) c.args.now got.0) c.args.self.now.engine c.get_hashed.new.self.engine c.args.clock.now c.get_hashed.new.clock got.2, c.in_default.ensures.counted, tt, (λ taken e. absurd (cc)))
+
+pub returns-in-Put : goal.returns-in-Put
+returns-in-Put g c =
+    let hash_by : g.row.S.Denot → ℕ = λ h. key_hash g.S.BuildHasher g.S.Hasher.Hasher h (g.K.Hash.hash_input c.args.key) in
+    let got = c.in-Ok.ensures.made in
+    let put = c.put_computed.ensures.made in (
+      got.0,
+      Ok c.in-Ok.seen,
+      got.1,
+      Some (Puts c.in-Put.value put.0),
+      (c.as_ref.result, c.as_ref.ensures.value, c.in-Put.ensures),
+      subst (λ b. HandsOutComputedPut g.K.Clone.is_clone g.V.Clone.is_clone c.args.key b put.0 c.put_computed.result) c.is_some-is_there.ensures put.1,
+      computed_put g.K.Clone.is_clone g.V.Clone.is_clone _ c.args.key hash_by c.args.now c.args.self.now.engine c.get_hashed.new.self.engine c.put_computed.new.self.engine c.args.clock.now c.get_hashed.new.clock c.put_computed.new.clock got.0 got.2 c.in-Put.value put.0 put.2,
+      c.put_computed.ensures.counted ∙ c.in-Ok.ensures.counted,
+      c.in-Ok.ensures.sees,
+      (λ taken e. absurd (cc)),
+    )
+
+pub returns-in-Some : goal.returns-in-Some
+returns-in-Some g c =
+    let hash_by : g.row.S.Denot → ℕ = λ h. key_hash g.S.BuildHasher g.S.Hasher.Hasher h (g.K.Hash.hash_input c.args.key) in
+    let got = c.in-Ok.ensures.made in
+    rw c.found.ensures (got.0, Ok c.in-Ok.seen, got.1, Some Left, (c.as_ref.result, c.as_ref.ensures.value, c.in-Nop.ensures), subst (λ o. HandsOutLeft g.K.Clone.is_clone g.V.Clone.is_clone c.args.key o (Ok (Unchanged (record { key = c.args.key; value = c.in-Some.value; is_fresh = false; is_old_value_replaced = false })))) (sym c.in-Some.is) (refl, (refl, refl, refl)), heard g.K.Clone.is_clone g.V.Clone.is_clone _ (GetsValue c.args.key (hash_by c.args.self.now.engine.hasher) c.args.now got.0) c.args.self.now.engine c.get_hashed.new.self.engine c.args.clock.now c.get_hashed.new.clock got.2, c.in-Ok.ensures.counted, c.in-Ok.ensures.sees, (λ taken e. absurd (cc)))
+
+pub returns-in-Nop : goal.returns-in-Nop
+returns-in-Nop g c =
+    let hash_by : g.row.S.Denot → ℕ = λ h. key_hash g.S.BuildHasher g.S.Hasher.Hasher h (g.K.Hash.hash_input c.args.key) in
+    let got = c.in-Ok.ensures.made in
+    (got.0, Ok c.in-Ok.seen, got.1, Some Left, (c.as_ref.result, c.as_ref.ensures.value, c.in-Nop.ensures), subst (λ o. HandsOutLeft g.K.Clone.is_clone g.V.Clone.is_clone c.args.key o (Ok (StillNone c.args.key))) (sym c.in-None.is) refl, heard g.K.Clone.is_clone g.V.Clone.is_clone _ (GetsValue c.args.key (hash_by c.args.self.now.engine.hasher) c.args.now got.0) c.args.self.now.engine c.get_hashed.new.self.engine c.args.clock.now c.get_hashed.new.clock got.2, c.in-Ok.ensures.counted, c.in-Ok.ensures.sees, (λ taken e. absurd (cc)))
+
+pub returns-then-is_there : goal.returns-then-is_there
+returns-then-is_there g c =
+    let hash_by : g.row.S.Denot → ℕ = λ h. key_hash g.S.BuildHasher g.S.Hasher.Hasher h (g.K.Hash.hash_input c.args.key) in
+    let got = c.in-Ok.ensures.made in
+    let took = c.remove_computed.ensures.made in (
+      got.0,
+      Ok c.in-Ok.seen,
+      got.1,
+      Some (Takes took.0),
+      (c.as_ref.result, c.as_ref.ensures.value, c.in-Remove.ensures),
+      (sym c.is_some-is_there.ensures ∙ c.if-is_there.true, took.1),
+      computed_take g.K.Clone.is_clone g.V.Clone.is_clone _ c.args.key hash_by c.args.now c.args.self.now.engine c.get_hashed.new.self.engine c.remove_computed.new.self.engine c.args.clock.now c.get_hashed.new.clock c.remove_computed.new.clock got.0 got.2 took.0 took.2,
+      c.remove_computed.ensures.counted ∙ c.in-Ok.ensures.counted,
+      c.in-Ok.ensures.sees,
+      (λ taken is. (
+        c.remove_computed.ensures.gone,
+        subst (λ t. IfSome t (λ t. IfSome c.in-Ok.seen (g.V.Clone.is_clone t.0))) (same_takes took.0 taken is)
+            (was_seen g.K.PartialEq.eq g.P.PredicateFn.says g.V.Clone.is_clone c.args.self.now.engine.state c.get_hashed.new.self.engine.state.records c.args.key c.args.now.0 c.in-Ok.seen took.0 c.in-Ok.ensures.sees c.in-Ok.ensures.stays took.3),
+      )),
+    )
+
+pub returns : goal.returns
+returns g c =
+    let hash_by : g.row.S.Denot → ℕ = λ h. key_hash g.S.BuildHasher g.S.Hasher.Hasher h (g.K.Hash.hash_input c.args.key) in
+    let got = c.in-Ok.ensures.made in
+    (got.0, Ok c.in-Ok.seen, got.1, Some LeftNone, (c.as_ref.result, c.as_ref.ensures.value, c.in-Remove.ensures), (none_by_test c.in-Ok.seen (sym c.is_some-is_there.ensures ∙ c.if-is_there.false), refl), heard g.K.Clone.is_clone g.V.Clone.is_clone _ (GetsValue c.args.key (hash_by c.args.self.now.engine.hasher) c.args.now got.0) c.args.self.now.engine c.get_hashed.new.self.engine c.args.clock.now c.get_hashed.new.clock got.2, c.in-Ok.ensures.counted, c.in-Ok.ensures.sees, (λ taken e. absurd (cc)))
+
+pub f-requires : goal.f-requires
+f-requires g c = c.requires.callable c.as_ref.result (rw c.as_ref.ensures.value c.in-Ok.ensures.sees)

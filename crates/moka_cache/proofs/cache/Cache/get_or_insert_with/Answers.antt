@@ -1,0 +1,10 @@
+use Rattle.std.proofs.Common.{rules, of_calls}
+use Rattle.moka_parts.specs.Hashing.{key_hash}
+use Rattle.moka_cache.proofs.Entries.{always_fresh}
+use Rattle.moka_cache.proofs.cache.Cache.get_or_insert_with.Goals as goal
+
+pub returns : goal.returns
+returns g c =
+    let got = rw c.always_made.ensures at c.get_or_try_insert_with.ensures in
+    let hash = key_hash g.S.BuildHasher g.S.Hasher.Hasher c.args.self.now.engine.hasher (g.K.Hash.hash_input c.args.key) in
+    always_fresh g.K.Clone.is_clone g.V.Clone.is_clone _ c.args.key hash c.args.now c.args.self.now c.get_or_try_insert_with.new.self c.args.clock.now c.get_or_try_insert_with.new.clock _ (g.F.FnOnce.post c.args.init tt) c.always_made.result got (λ v called. search (of_calls, rules))

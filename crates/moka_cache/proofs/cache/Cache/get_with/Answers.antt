@@ -1,0 +1,11 @@
+use Rattle.std.proofs.Common.{rules, of_calls}
+use Rattle.moka_parts.specs.Hashing.{key_hash}
+use Rattle.moka_cache.proofs.Getting.{always_answers}
+use Rattle.moka_cache.proofs.cache.Cache.get_with.Goals as goal
+
+pub returns : goal.returns
+returns g c =
+    let got = c.try_get_with.ensures in
+    let hash = key_hash g.S.BuildHasher g.S.Hasher.Hasher c.args.self.now.engine.hasher (g.K.Hash.hash_input c.args.key) in
+    let came = always_answers g.V.Clone.is_clone _ c.args.key hash c.args.now c.args.self.now c.try_get_with.new.self c.args.clock.now c.try_get_with.new.clock _ (g.F.FnOnce.post c.args.init tt) got.0 got.1 c.always_made.result (rw c.always_made.ensures at got.2) (λ v called. search (of_calls, rules)) in
+    (came.0, came.1, came.3)

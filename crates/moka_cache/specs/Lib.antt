@@ -1,0 +1,15 @@
+pub mod Synchronous
+pub mod Unsent
+pub mod Laws
+pub mod Texts
+pub mod Counters
+pub mod Visible
+pub mod Given
+pub mod Saved
+pub mod Counted
+pub mod Removed
+pub mod Entries
+pub mod Computing
+pub mod Many
+pub mod Limits
+pub mod Registering

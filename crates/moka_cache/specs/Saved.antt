@@ -1,0 +1,224 @@
+-- Entries that are saved, and put back into another cache.
+use Rattle.std.specs.Prelude.{◌≡◌, ◌==◌, ◌+◌, ◌≤◌, ⊤, ℕ, Bool, Option, true, false, ◌||◌, List, [], ◌∷◌, ◌++◌, Some, ◌⊎◌, ◌↔◌, None, Result, Ok, Err, Contains}
+use Rattle.std.specs.FinMap.{get, empty}
+use Rattle.std.specs.List.{AllByRecursion, IsDistinct}
+use Rattle.std.specs.Vec.Iter.{into_iter_items}
+use Rattle.moka_parts.specs.declared.calls.Ticket.{Ticket}
+use Rattle.moka_parts.specs.declared.policy.Instant.{Instant}
+use Rattle.moka_parts.specs.declared.records.Member.{Member}
+use Rattle.moka_parts.specs.declared.records.Operation.TheVariants.{Upsert}
+use Rattle.moka_parts.specs.declared.records.Record.{Record}
+use Rattle.moka_parts.specs.Calls.{no_events, Weighs}
+use Rattle.moka_parts.specs.Copies.{ClonesAreEqual}
+use Rattle.moka_parts.specs.Exact.{weight_of_records}
+use Rattle.moka_parts.specs.Records.{counted_of, is_member, numbers_of, record_of_key}
+use Rattle.moka_parts.specs.Runs.{Engine, Befalls, IsEmpty}
+use Rattle.moka_parts.specs.Settling.{IsValid, IsWaiting}
+use Rattle.moka_parts.specs.State.{State, Settings, Meaning, is_disabled}
+use Rattle.moka_parts.specs.Time.{has_passed, deadline, moment_of}
+use Rattle.moka_parts.specs.Visibility.{has_lapsed, IsVisible}
+use Rattle.moka_engine.specs.declared.base_cache.restores.Restored.{Restored}
+use Rattle.moka_engine.specs.declared.base_cache.restores.RestoreRefused.{RestoreRefused}
+use Rattle.moka_engine.specs.Restores.{RestoreStep}
+use Rattle.moka_engine.specs.Snapshots.{Scene, Seen, IsListed, IsPassed, scene_of}
+use Rattle.moka_cache.specs.declared.cache.saves.RestoreManyRefused.{RestoreManyRefused}
+use Rattle.moka_cache.specs.Synchronous.{Makes, Posts}
+use Rattle.moka_cache.specs.Unsent.{HidesNoMore}
+
+-- each record is a member of the access list
+abbrev pub HasOnlyMembers : {K V X P W : Type 0} → State K V X P W → Type 0
+HasOnlyMembers {K} {V} s = (n : ℕ) (r : Record K V) → get s.records n ≡ Some r → is_member n s.access ≡ true
+
+-- an entry that is saved: clones of key and value, with the moments and the expiry
+pub record IsSaved {K V : Type 0} (is_key_clone : K → K → Type 0) (is_value_clone : V → V → Type 0) (seen : Seen K V)
+    (item : Restored K V) : Type 0 where
+  pub key : is_key_clone seen.key item.key
+  pub value : is_value_clone seen.value item.value
+  pub written : item.last_modified ≡ seen.written
+  pub read : item.last_accessed ≡ seen.read
+  pub expires : item.expires ≡ seen.expires
+
+-- the visible entries of these members are saved, in their order
+abbrev pub AreSaved : {K V X P : Type 0} → (P → K → V → Bool → Type 0) → (K → K → Type 0) → (V → V → Type 0) →
+    Scene K V X P → List Member → List (Restored K V) → Type 0
+AreSaved says is_key_clone is_value_clone c [] items = items ≡ []
+AreSaved {K} {V} says is_key_clone is_value_clone c (a ∷ members) items =
+    (IsPassed says c a × AreSaved says is_key_clone is_value_clone c members items)
+    ⊎ ((seen : Seen K V) × (item : Restored K V) × (rest : List (Restored K V)) × (items ≡ item ∷ rest)
+    × IsListed says c a seen × IsSaved is_key_clone is_value_clone seen item
+    × AreSaved says is_key_clone is_value_clone c members rest)
+
+-- each record of the second was in the first, but for the applied generation
+abbrev pub KeepsRecords : {K V X P W : Type 0} → State K V X P W → State K V X P W → Type 0
+KeepsRecords {K} {V} s t = (n : ℕ) (q : Record K V) → get t.records n ≡ Some q → (r : Record K V)
+    × (get s.records n ≡ Some r) × ((g : ℕ) × (q ≡ record r { applied = g }))
+
+-- the record has the key and the value of the entry, its moments and its expiry
+pub record IsOfItem {K V : Type 0} (item : Restored K V) (r : Record K V) : Type 0 where
+  pub key_is : r.key ≡ item.key
+  pub value_is : r.value ≡ item.value
+  pub written_is : r.written ≡ item.last_modified
+  pub read_is : r.read ≡ item.last_accessed
+  pub expires_is : r.expires ≡ item.expires
+
+-- the key of the entry has its record
+pub record IsRestored {K V X P W : Type 0} (eq : K → K → Bool) (s : State K V X P W)
+    (item : Restored K V) : Type 0 where
+  pub kept : Record K V
+  pub found : record_of_key eq s.records item.key ≡ Some kept
+  pub of_item : IsOfItem item kept
+
+-- each record of the second is one of the first, but for the applied generation, or has been put back of one of the
+-- entries
+abbrev pub AddsOnly : {K V X P W : Type 0} → List (Restored K V) → State K V X P W → State K V X P W → Type 0
+AddsOnly {K} {V} items s t = (n : ℕ) (q : Record K V) → get t.records n ≡ Some q →
+    ((r : Record K V) × (get s.records n ≡ Some r) × ((g : ℕ) × (q ≡ record r { applied = g })))
+    ⊎ ((item : Restored K V) × Contains items item × IsOfItem item q)
+
+-- ---- where nothing but time takes a record out
+
+-- each member has its record, with the weight that is counted for it, and each upsert that waits has that of its record
+pub record AreAsWeighed {K V X P W : Type 0} (s : State K V X P W) : Type 0 where
+  pub once : IsDistinct (◌==◌) (numbers_of s.access)
+  pub counted : (n w : ℕ) → counted_of n s.access ≡ Some w → (r : Record K V) × (get s.records n ≡ Some r)
+      × (r.weight ≡ w)
+  pub waiting : (n g w hash : ℕ) → IsWaiting s (Upsert n g w hash) → (r : Record K V) → get s.records n ≡ Some r →
+      r.weight ≡ w
+
+-- the limits are the same, and each record that has not expired at the moment is still there, but for the applied
+-- generation
+pub record KeepsUnexpired {K V X P W : Type 0} (now : ℕ) (s t : State K V X P W) : Type 0 where
+  pub settings : t.settings ≡ s.settings
+  pub capacity : t.capacity ≡ s.capacity
+  pub there : (n : ℕ) (r : Record K V) → get s.records n ≡ Some r →
+      has_lapsed s.settings s.invalid_before r now ≡ false → (g : ℕ)
+      × (get t.records n ≡ Some (record r { applied = g }))
+
+-- the entries weigh no more than this in all, whatever the weigher tells
+abbrev pub WeighAtMost : {K V W : Type 0} → (W → K → V → ℕ → Type 0) → Option W → List (Restored K V) → ℕ → Type 0
+WeighAtMost weighs weigher [] total = ⊤
+WeighAtMost weighs weigher (item ∷ items) total =
+    (own : ℕ) × (rest : ℕ) × (own + rest ≤ total) × ((w : ℕ) → Weighs weighs weigher item.key item.value w → w ≤ own)
+    × WeighAtMost weighs weigher items rest
+
+module _ {K V X P W : Type 0} (weighs : W → K → V → ℕ → Type 0) where
+  -- there is no capacity, or it has room for all records and these entries
+  abbrev pub HasRoomFor : Option ℕ → List (Restored K V) → State K V X P W → Type 0
+  HasRoomFor None items s = ⊤
+  HasRoomFor (Some capacity) items s = (is_disabled (Some capacity) ≡ false) × AreAsWeighed s
+      × ((total : ℕ) × WeighAtMost weighs s.settings.weigher items total
+      × (weight_of_records s.records + total ≤ capacity))
+
+  -- nothing but time takes out a record, or one of these entries when it is put back: there is room for all, no
+  -- predicate and no invalidation of all
+  pub record IsRoomyFor (items : List (Restored K V)) (s : State K V X P W) : Type 0 where
+    pub room : HasRoomFor s.capacity items s
+    pub bound : s.invalid_before ≡ None
+    pub predicates : s.predicates ≡ []
+
+  -- while these entries are put back, nothing but time takes a record out; and then there is room for the others
+  abbrev pub TakesOnlyExpired : List (Restored K V) → ℕ → State K V X P W → State K V X P W → Type 0
+  TakesOnlyExpired items now s t = (others : List (Restored K V)) → IsRoomyFor (items ++ others) s
+      → KeepsUnexpired now s t × IsRoomyFor others t
+
+-- an entry that is put back has expired at the moment
+abbrev pub has_expired : {K V X W : Type 0} → Settings X W → ℕ → Restored K V → Bool
+has_expired settings now item = has_passed (moment_of item.expires) now
+    || has_passed (deadline settings.time_to_live item.last_modified.0) now
+    || has_passed (deadline settings.time_to_idle item.last_accessed.0) now
+
+-- where there is room for all, each of the entries that has not expired at the moment has been put back
+abbrev pub AreThere : {K V X P W : Type 0} → (W → K → V → ℕ → Type 0) → (K → K → Bool) → ℕ → List (Restored K V) →
+    State K V X P W → State K V X P W → Type 0
+AreThere weighs eq now items s t = IsRoomyFor weighs items s
+    → AllByRecursion (λ item. has_expired s.settings now item ≡ false → IsRestored eq t item) items
+
+-- ---- calls
+
+module _ {K V S X L P W C : Type 0} (m : Meaning K V X L P W C (Unit {0})) (hash_of : S → K → ℕ) (now : Instant) where
+  -- an entry is put back, and its ticket posted; a disabled map lets it go, and one that is refused comes back for that
+  -- reason
+  abbrev pub PutsBack : Restored K V → Result (Unit {0}) (RestoreRefused K V) → Engine K V S X L P W → C →
+      Engine K V S X L P W → C → Type 0
+  PutsBack item (Ok done) old clock new clock_after =
+      ((is_disabled old.state.capacity ≡ true) × (new ≡ old) × (clock_after ≡ clock))
+      ⊎ ((is_disabled old.state.capacity ≡ false) × (mid : Engine K V S X L P W) × (ticket : Ticket)
+      × RestoreStep m.weighs m.eq old.state item (hash_of old.hasher item.key) (Ok ticket) mid.state
+      × Befalls m.tells no_events old mid
+      × Makes m (Posts now ticket) mid clock new clock_after)
+  PutsBack item (Err refused) old clock new clock_after =
+      (is_disabled old.state.capacity ≡ false)
+      × RestoreStep m.weighs m.eq old.state item (hash_of old.hasher item.key) (Err refused) new.state
+      × Befalls m.tells no_events old new × (clock_after ≡ clock)
+
+  -- each is put back, one after the other
+  abbrev pub PutsAllBack : List (Restored K V) → Engine K V S X L P W → C → Engine K V S X L P W → C → Type 0
+  PutsAllBack [] old clock new clock_after = (new ≡ old) × (clock_after ≡ clock)
+  PutsAllBack (item ∷ items) old clock new clock_after =
+      (mid : Engine K V S X L P W) × (between : C) × PutsBack item (Ok tt) old clock mid between
+      × PutsAllBack items mid between new clock_after
+
+  -- each is put back; or those before the one that is refused, and those after it come back
+  abbrev pub PutsManyBack : List (Restored K V) → Result (Unit {0}) (RestoreManyRefused K V) → Engine K V S X L P W →
+      C → Engine K V S X L P W → C → Type 0
+  PutsManyBack items (Ok all) old clock new clock_after = PutsAllBack items old clock new clock_after
+  PutsManyBack items (Err e) old clock new clock_after =
+      (done : List (Restored K V)) × (item : Restored K V) × (items ≡ done ++ item ∷ into_iter_items e.rest)
+      × (mid : Engine K V S X L P W) × (between : C) × PutsAllBack done old clock mid between
+      × PutsBack item (Err e.refused) mid between new clock_after
+
+-- a record that was visible at one moment, and one with the same value, moments and expiry in a cache with the same
+-- times and no invalidation: whenever one is visible the other is
+abbrev pub AnswersAlike : {K V P : Type 0} → (X W : Type 0) → (P → K → V → Bool → Type 0) → Type 0
+AnswersAlike {K} {V} {P} X W says = (first second : State K V X P W) (r q : Record K V) (seen now : ℕ) →
+    second.settings.time_to_live ≡ first.settings.time_to_live →
+    second.settings.time_to_idle ≡ first.settings.time_to_idle → second.invalid_before ≡ None → second.predicates ≡ [] →
+    q.written ≡ r.written → q.read ≡ r.read → q.expires ≡ r.expires → IsVisible says first r seen
+    → IsVisible says first r now ↔ IsVisible says second q now
+
+-- ---- a cache made again
+
+-- the second cache was made again of the first: what `save` lists of it at one moment was put back at another, as
+-- `restore` promises, into an empty cache with the same times and room for all
+pub record IsMadeAgain {K V X P W : Type 0} (weighs : W → K → V → ℕ → Type 0) (eq : K → K → Bool)
+    (says : P → K → V → Bool → Type 0) (is_key_clone : K → K → Type 0) (is_value_clone : V → V → Type 0) (saved put : ℕ)
+    (items : List (Restored K V)) (first start second : State K V X P W) : Type 0 where
+  pub items_saved : AreSaved says is_key_clone is_value_clone (scene_of first saved) first.access items
+  pub all_saved : HasOnlyMembers first
+  pub no_records : start.records ≡ empty
+  pub roomy : IsRoomyFor weighs items start
+  pub time_to_live : start.settings.time_to_live ≡ first.settings.time_to_live
+  pub time_to_idle : start.settings.time_to_idle ≡ first.settings.time_to_idle
+  pub there : AreThere weighs eq put items start second
+  pub adds : AddsOnly items start second
+  pub hides : HidesNoMore start second
+
+-- a look-up of the key finds this record at the moment
+abbrev pub IsSeen : {K V X P W : Type 0} → (K → K → Bool) → (P → K → V → Bool → Type 0) → State K V X P W → K → ℕ →
+    Record K V → Type 0
+IsSeen eq says s key now r = (record_of_key eq s.records key ≡ Some r) × IsVisible says s r now
+
+-- both caches answer a look-up of the key at the moment alike: what one finds the other finds, and the value in the
+-- second is a clone of that in the first
+pub record AnswerAlike {K V X P W : Type 0} (eq : K → K → Bool) (says : P → K → V → Bool → Type 0)
+    (is_value_clone : V → V → Type 0) (first second : State K V X P W) (key : K) (now : ℕ) : Type 0 where
+  pub forth : (r : Record K V) → IsSeen eq says first key now r → (q : Record K V) × IsSeen eq says second key now q
+      × is_value_clone r.value q.value
+  pub back : (q : Record K V) → IsSeen eq says second key now q → (r : Record K V) × IsSeen eq says first key now r
+      × is_value_clone r.value q.value
+
+-- a cache made again answers each look-up as the first does, at each moment that is before neither of the two
+abbrev pub MadeAgainAnswersAlike : {K V P W : Type 0} → (X : Type 0) → (W → K → V → ℕ → Type 0) → (K → K → Bool) →
+    (P → K → V → Bool → Type 0) → (K → K → Type 0) → (V → V → Type 0) → Type 0
+MadeAgainAnswersAlike {K} {V} {P} {W} X weighs eq says is_key_clone is_value_clone = ClonesAreEqual is_key_clone →
+    (saved put : ℕ) (items : List (Restored K V)) (first start second : State K V X P W) → IsValid eq first →
+    IsValid eq second → IsMadeAgain weighs eq says is_key_clone is_value_clone saved put items first start second →
+    (key : K) (now : ℕ) → saved ≤ now → put ≤ now → AnswerAlike eq says is_value_clone first second key now
+
+-- an empty cache without predicates and an invalidation of all has room for entries that weigh no more than its
+-- capacity
+abbrev pub EmptyHasRoom : {K V W : Type 0} → (X P : Type 0) → (W → K → V → ℕ → Type 0) → Type 0
+EmptyHasRoom {K} {V} {W} X P weighs = (items : List (Restored K V)) (start : State K V X P W) (capacity total : ℕ) →
+    IsEmpty start → start.invalid_before ≡ None → start.predicates ≡ [] → start.capacity ≡ Some capacity →
+    is_disabled (Some capacity) ≡ false →
+    WeighAtMost weighs start.settings.weigher items total → total ≤ capacity → IsRoomyFor weighs items start

@@ -1,0 +1,174 @@
+//! Look-ups and removals by a test of the key in place of a key.
+ghost use Rattle.std.specs.Prelude.{◌≡◌, true, Option, Some, None, Result, IfOk, IfSome, OnErr, is_some};
+ghost use Rattle.moka_parts.specs.Calls.{ContainsStep};
+ghost use Rattle.moka_parts.specs.Copies.{IsCopiedAnswer};
+ghost use Rattle.moka_parts.specs.KeyTests.{ContainsByStep, record_by};
+ghost use Rattle.moka_parts.specs.Records.{record_of_key};
+ghost use Rattle.moka_parts.specs.declared.error.OutOfMemory.{OutOfMemory};
+ghost use Rattle.moka_parts.specs.declared.records.Record.{Record};
+ghost use Rattle.moka_cache.specs.Counters.{after_look_up};
+ghost use Rattle.moka_parts.specs.Hashing.{key_hash};
+ghost use Rattle.moka_cache.specs.Synchronous.{GetsValue, Makes, RemovesEntry, hears_clones, invalidated, meaning_of, removed};
+
+use super::{Cache, invalidated, removed, value_of};
+use crate::error::NotTold;
+use moka_parts::closures::{PredicateFn, Weigher};
+use moka_parts::error::OutOfMemory;
+use moka_parts::housekeeper::Clock;
+use moka_parts::key_test::KeyTest;
+use moka_parts::notification::Listener;
+use moka_parts::policy::{Expiry, Instant};
+use std::hash::{BuildHasher, Hash};
+
+impl<
+    K: Eq + Hash,
+    V,
+    X: Expiry<K, V>,
+    L: Listener<K, V>,
+    P: PredicateFn<K, V>,
+    W: Weigher<K, V>,
+    S: BuildHasher,
+> Cache<K, V, X, L, P, W, S> {
+    /// The hash of a form of a key by the cache's hasher. It is the key's if both give the hasher the same, as a `&str`
+    /// and a `String` of the same text do.
+    pub fn hash_of<Q: Hash>(&self, form: &Q) -> u64
+        ensures { result ≡ key_hash S.BuildHasher S.Hasher.Hasher self.now.engine.hasher (Q.hash_input form.now) }
+    {
+        self.engine.hash_of(form)
+    }
+
+    /// As `contains_key` of the key that passes. `hash` is that of the keys that do, by the cache's hasher.
+    pub fn contains_key_by<T: KeyTest<K>>(&self, test: &T, hash: u64, now: Instant) -> bool
+        requires own { (k : K) → T.passes test.now k ≡ true
+            → hash ≡ key_hash S.BuildHasher S.Hasher.Hasher self.now.engine.hasher (K.hash_input k) }
+        ensures shown { ContainsByStep P.says (T.passes test.now) self.now.engine.state now.0 result }
+        ensures as_key { (key : K) → T.passes test.now key ≡ true
+            → ContainsStep P.says K.eq self.now.engine.state key now.0 result }
+    {
+        self.engine.contains_by(test, hash, now)
+    }
+
+    /// As `get` of the key that passes. `hash` is that of the keys that do, by the cache's hasher.
+    ///
+    /// # Errors
+    /// As `get`.
+    pub fn get_by<T: KeyTest<K>, C: Clock>(
+        &mut self,
+        test: &T,
+        hash: u64,
+        now: Instant,
+        clock: &mut C,
+    ) -> Result<Option<V>, OutOfMemory>
+    where
+        K: Clone + Drop,
+        V: Clone + Drop,
+        P: Drop,
+        requires own { (k : K) → T.passes test.now k ≡ true
+            → hash ≡ key_hash S.BuildHasher S.Hasher.Hasher self.old.engine.hasher (K.hash_input k) }
+        ensures made { (key : K) → T.passes test.now key ≡ true → (own : Result (Option V) OutOfMemory)
+            × IsCopiedAnswer V.is_clone own result
+            × Makes (meaning_of K.eq L.tells P.says W.weighs C.reads X.created X.read X.updated)
+            (GetsValue key hash now own) self.old.engine clock.old self.new.engine clock.new }
+        ensures value { IfOk result (λ found. IfSome found (λ v. (r : Record K V)
+            × (record_by (T.passes test.now) self.old.engine.state.records ≡ Some r) × V.is_clone r.value v)) }
+        ensures shown { IfOk result
+            (λ found. ContainsByStep P.says (T.passes test.now) self.old.engine.state now.0 (is_some found)) }
+        ensures unchanged { OnErr result ((self.new.engine.state ≡ self.old.engine.state) × (clock.new ≡ clock.old)) }
+        ensures counted { self.new.stats ≡ after_look_up result self.old.stats }
+    {
+        self.engine.invariant_holds();
+        let entry = self.engine.get_by(test, hash, false, now, clock);
+        let found = value_of(entry);
+        self.stats.count_look_up(&found);
+        found
+    }
+
+    /// As `remove` of the key that passes. `hash` is that of the keys that do, by the cache's hasher.
+    ///
+    /// # Errors
+    /// As `remove`.
+    pub fn remove_by<T: KeyTest<K>, C: Clock>(
+        &mut self,
+        test: &T,
+        hash: u64,
+        now: Instant,
+        clock: &mut C,
+    ) -> Result<Option<V>, NotTold<V>>
+    where
+        K: Clone + Drop,
+        V: Clone + Drop,
+        P: Drop,
+        requires own { (k : K) → T.passes test.now k ≡ true
+            → hash ≡ key_hash S.BuildHasher S.Hasher.Hasher self.old.engine.hasher (K.hash_input k) }
+        ensures made { (key : K) → T.passes test.now key ≡ true → (taken : Option (V × Result (Unit {0}) OutOfMemory))
+            × (result ≡ removed taken)
+            × Makes (meaning_of K.eq (hears_clones K.is_clone V.is_clone L.tells) P.says W.weighs C.reads
+            X.created X.read X.updated)
+            (RemovesEntry key hash now taken) self.old.engine clock.old self.new.engine clock.new }
+        ensures gone { (key : K) → T.passes test.now key ≡ true
+            → record_of_key K.eq self.new.engine.state.records key ≡ None }
+        ensures counted { self.new.stats ≡ self.old.stats }
+    {
+        removed(self.take_by(test, hash, now, clock))
+    }
+
+    /// As `invalidate` of the key that passes. `hash` is that of the keys that do, by the cache's hasher.
+    ///
+    /// # Errors
+    /// As `invalidate`.
+    pub fn invalidate_by<T: KeyTest<K>, C: Clock>(
+        &mut self,
+        test: &T,
+        hash: u64,
+        now: Instant,
+        clock: &mut C,
+    ) -> Result<(), NotTold<V>>
+    where
+        K: Clone + Drop,
+        V: Clone + Drop,
+        P: Drop,
+        requires own { (k : K) → T.passes test.now k ≡ true
+            → hash ≡ key_hash S.BuildHasher S.Hasher.Hasher self.old.engine.hasher (K.hash_input k) }
+        ensures made { (key : K) → T.passes test.now key ≡ true → (taken : Option (V × Result (Unit {0}) OutOfMemory))
+            × (result ≡ invalidated taken)
+            × Makes (meaning_of K.eq (hears_clones K.is_clone V.is_clone L.tells) P.says W.weighs C.reads
+            X.created X.read X.updated)
+            (RemovesEntry key hash now taken) self.old.engine clock.old self.new.engine clock.new }
+        ensures gone { (key : K) → T.passes test.now key ≡ true
+            → record_of_key K.eq self.new.engine.state.records key ≡ None }
+        ensures counted { self.new.stats ≡ self.old.stats }
+    {
+        invalidated(self.take_by(test, hash, now, clock))
+    }
+
+    // Takes the key that passes out: its value, and whether the listener was notified.
+    fn take_by<T: KeyTest<K>, C: Clock>(
+        &mut self,
+        test: &T,
+        hash: u64,
+        now: Instant,
+        clock: &mut C,
+    ) -> Option<(V, Result<(), OutOfMemory>)>
+    where
+        K: Clone + Drop,
+        V: Clone + Drop,
+        P: Drop,
+        requires own { (k : K) → T.passes test.now k ≡ true
+            → hash ≡ key_hash S.BuildHasher S.Hasher.Hasher self.old.engine.hasher (K.hash_input k) }
+        ensures made { (key : K) → T.passes test.now key ≡ true
+            → Makes (meaning_of K.eq (hears_clones K.is_clone V.is_clone L.tells) P.says W.weighs C.reads
+            X.created X.read X.updated)
+            (RemovesEntry key hash now result) self.old.engine clock.old self.new.engine clock.new }
+        ensures gone { (key : K) → T.passes test.now key ≡ true
+            → record_of_key K.eq self.new.engine.state.records key ≡ None }
+        ensures counted { self.new.stats ≡ self.old.stats }
+    {
+        self.engine.invariant_holds();
+        let Some((entry, ticket)) = self.engine.remove_by(test, hash) else {
+            return None;
+        };
+        let told = self.engine.notify_invalidate(&entry, now);
+        Self::post(&mut self.engine, ticket, now, clock);
+        Some((entry.value, told))
+    }
+}

@@ -1,0 +1,243 @@
+//! Entry calls that compute a key's value from the one that is there. moka: `ops::compute`, `sync::entry_selector`.
+ghost use Rattle.std.specs.Prelude.{◌≡◌, Option, Some, None, Result, Ok, Err, option_copied, option_map};
+ghost use Rattle.moka_parts.specs.Records.{record_of_key};
+ghost use Rattle.moka_parts.specs.declared.error.InsertRefused.{InsertRefused};
+ghost use Rattle.moka_parts.specs.declared.error.OutOfMemory.{OutOfMemory};
+ghost use Rattle.moka_cache.specs.Computing.{HandsOutComputedPut, HandsOutTaken, AndUpserts, AndComputes};
+ghost use Rattle.moka_cache.specs.Given.{Sees};
+ghost use Rattle.moka_parts.specs.Hashing.{key_hash};
+ghost use Rattle.moka_cache.specs.Synchronous.{InsertsMade, Makes, RemovesEntry, hears_clones, meaning_of};
+
+use crate::cache::{Cache, Put};
+use crate::entry::{CacheEntry, found};
+use crate::error::{GetWithRefused, NotTold};
+use moka_parts::closures::{PredicateFn, Weigher};
+use moka_parts::error::{InsertRefused, OutOfMemory};
+use moka_parts::housekeeper::Clock;
+use moka_parts::notification::Listener;
+use moka_parts::policy::{Expiry, Instant};
+use std::error::Error;
+use std::fmt;
+use std::hash::{BuildHasher, Hash};
+
+/// What a closure of `compute_with` answers. moka: `ops::compute::Op`.
+#[derive(Debug, Drop)]
+pub enum Op<V> {
+    /// Leave the cache as it is.
+    Nop,
+    /// Put this value under the key.
+    Put(V),
+    /// Take the key out.
+    Remove,
+}
+
+/// What `compute_with` did. moka: `ops::compute::CompResult`.
+#[derive(Debug, Drop)]
+pub enum CompResult<K, V> {
+    /// The value was put, and the closure had seen none. A cache of capacity 0 answers this too, and drops it.
+    Inserted(CacheEntry<K, V>),
+    /// The value was put, and the closure had seen another.
+    ReplacedWith(CacheEntry<K, V>),
+    /// The key was taken out, with this value.
+    Removed(CacheEntry<K, V>),
+    /// No value was put, and none is there that could be taken out. The key comes back.
+    StillNone(K),
+    /// Nothing was done, and the closure had seen this value.
+    Unchanged(CacheEntry<K, V>),
+}
+
+/// Why `compute_with` did not do what was answered.
+#[derive(Debug, Drop)]
+pub enum ComputeRefused<K, V> {
+    /// Memory for a clone of the value that is there was refused. Nothing has changed, and the key comes back.
+    Lookup(K),
+    /// The value was not put, since memory for a clone of it or of the key, or for the insert, was refused, or tickets
+    /// are used up. The look-up stands, and key and value come back.
+    Insert(InsertRefused<K, V>),
+    /// The key was taken out, and the listener was not notified, since memory for a clone was refused. Key and value
+    /// come back.
+    NotTold(K, NotTold<V>),
+}
+
+impl<K, V> fmt::Display for ComputeRefused<K, V> {
+    ghost use Rattle.std.specs.Prelude.{Some};
+    ghost use Rattle.moka_cache.specs.Computing.{compute_text};
+
+    ghost output = { λ refused. Some (compute_text refused) };
+
+    fn fmt<W: fmt::Write>(&self, f: &mut fmt::Formatter<W>) -> fmt::Result {
+        match self {
+            ComputeRefused::Lookup(_) => write!(f, "{OutOfMemory}"),
+            ComputeRefused::Insert(refused) => write!(f, "{refused}"),
+            ComputeRefused::NotTold(_, refused) => write!(f, "{refused}"),
+        }
+    }
+}
+
+impl<K: fmt::Debug + Drop, V: fmt::Debug + Drop> Error for ComputeRefused<K, V> {}
+
+impl<K, V> From<InsertRefused<K, V>> for ComputeRefused<K, V> {
+    ghost use Rattle.std.specs.Prelude.{◌≡◌};
+    ghost use Rattle.moka_cache.specs.declared.compute.ComputeRefused.TheVariants.{Insert};
+
+    ghost from_gives = { λ refused error. error ≡ Insert refused };
+
+    fn from(refused: InsertRefused<K, V>) -> Self {
+        ComputeRefused::Insert(refused)
+    }
+}
+
+impl<
+    K: Eq + Hash,
+    V,
+    X: Expiry<K, V>,
+    L: Listener<K, V>,
+    P: PredicateFn<K, V>,
+    W: Weigher<K, V>,
+    S: BuildHasher,
+> Cache<K, V, X, L, P, W, S> {
+    /// Puts the value that `f` makes of a clone of the key's value, or of `None` if the key is not there or not visible
+    /// at the moment `now`. No load is counted. moka: `and_upsert_with`.
+    ///
+    /// # Errors
+    /// `Lookup`, with the key, if memory for the clone of the value that is there is refused; `f` was not called. And
+    /// `Insert`, with key and the value that was made, as `get_or_insert_with`; what is there was left.
+    pub fn upsert_with<F: FnOnce(Option<V>) -> V, C: Clock>(
+        &mut self,
+        key: K,
+        f: F,
+        now: Instant,
+        clock: &mut C,
+    ) -> Result<CacheEntry<K, V>, GetWithRefused<K, V>>
+    where
+        K: Clone + Drop,
+        V: Clone + Drop,
+        P: Drop,
+        requires callable { (seen : Option V) → Sees K.eq P.says V.is_clone self.old.engine.state key now.0 seen
+            → F.pre f seen }
+        ensures { AndUpserts (meaning_of K.eq L.tells P.says W.weighs C.reads X.created X.read X.updated)
+            K.is_clone V.is_clone key
+            (key_hash S.BuildHasher S.Hasher.Hasher self.old.engine.hasher (K.hash_input key)) now
+            self.old clock.old self.new clock.new (F.post f) result }
+    {
+        let hash = self.hash_of(&key);
+        let Ok(seen) = self.get_hashed(&key, hash, now, clock) else {
+            return Err(GetWithRefused::Lookup(key));
+        };
+        let is_there = seen.is_some();
+        let value = f(seen);
+        Ok(self.insert_entry(Put { key, hash, value }, is_there, now, clock)?)
+    }
+
+    /// Puts a value, takes the key out, or does nothing, as `f` answers, which sees a clone of the key's value, or
+    /// `None` if the key is not there or not visible at the moment `now`. A removal hands its value out, and the
+    /// listener, if one is set, is notified. No load is counted. moka: `and_compute_with`.
+    ///
+    /// # Errors
+    /// `Lookup`, with the key, if memory for the clone of the value that is there is refused; `f` was not called. And
+    /// `Insert` and `NotTold`, with key and value.
+    pub fn compute_with<F: FnOnce(Option<&V>) -> Op<V>, C: Clock>(
+        &mut self,
+        key: K,
+        f: F,
+        now: Instant,
+        clock: &mut C,
+    ) -> Result<CompResult<K, V>, ComputeRefused<K, V>>
+    where
+        K: Clone + Drop,
+        V: Clone + Drop,
+        P: Drop,
+        requires callable { (seen : _)
+            → Sees K.eq P.says V.is_clone self.old.engine.state key now.0 (option_copied seen) → F.pre f seen }
+        ensures { AndComputes (meaning_of K.eq (hears_clones K.is_clone V.is_clone L.tells) P.says W.weighs C.reads
+            X.created X.read X.updated)
+            K.is_clone V.is_clone key
+            (key_hash S.BuildHasher S.Hasher.Hasher self.old.engine.hasher (K.hash_input key)) now
+            self.old clock.old self.new clock.new (λ seen op. (x : _) × (option_copied x ≡ seen)
+            × F.post f x op) result }
+    {
+        let hash = self.hash_of(&key);
+        let Ok(seen) = self.get_hashed(&key, hash, now, clock) else {
+            return Err(ComputeRefused::Lookup(key));
+        };
+        let is_there = seen.is_some();
+        match f(seen.as_ref()) {
+            Op::Put(value) => self.put_computed(Put { key, hash, value }, is_there, now, clock),
+            Op::Nop => match seen {
+                Some(value) => Ok(CompResult::Unchanged(found(key, value))),
+                None => Ok(CompResult::StillNone(key)),
+            },
+            Op::Remove => {
+                if is_there {
+                    self.remove_computed(key, hash, now, clock)
+                } else {
+                    Ok(CompResult::StillNone(key))
+                }
+            }
+        }
+    }
+
+    // Puts the value that was computed, with the key's hash.
+    fn put_computed<C: Clock>(
+        &mut self,
+        put: Put<K, V>,
+        is_there: bool,
+        now: Instant,
+        clock: &mut C,
+    ) -> Result<CompResult<K, V>, ComputeRefused<K, V>>
+    where
+        K: Clone + Drop,
+        V: Clone + Drop,
+        P: Drop,
+        requires own { put.hash ≡ key_hash S.BuildHasher S.Hasher.Hasher self.old.engine.hasher (K.hash_input put.key) }
+        ensures made { (own : Result V (InsertRefused K V))
+            × HandsOutComputedPut K.is_clone V.is_clone put.key is_there own result
+            × Makes (meaning_of K.eq L.tells P.says W.weighs C.reads X.created X.read X.updated)
+            (InsertsMade put.key (key_hash S.BuildHasher S.Hasher.Hasher self.old.engine.hasher (K.hash_input put.key))
+            now put.value own)
+            self.old.engine clock.old self.new.engine clock.new }
+        ensures counted { self.new.stats ≡ self.old.stats }
+    {
+        let entry = self.insert_entry(put, is_there, now, clock)?;
+        if is_there {
+            Ok(CompResult::ReplacedWith(entry))
+        } else {
+            Ok(CompResult::Inserted(entry))
+        }
+    }
+
+    // Takes the key out, of which a value was seen, with its hash.
+    fn remove_computed<C: Clock>(
+        &mut self,
+        key: K,
+        hash: u64,
+        now: Instant,
+        clock: &mut C,
+    ) -> Result<CompResult<K, V>, ComputeRefused<K, V>>
+    where
+        K: Clone + Drop,
+        V: Clone + Drop,
+        P: Drop,
+        requires own { hash ≡ key_hash S.BuildHasher S.Hasher.Hasher self.old.engine.hasher (K.hash_input key) }
+        ensures made { (taken : Option (V × Result (Unit {0}) OutOfMemory))
+            × HandsOutTaken K.is_clone V.is_clone key taken result
+            × Makes (meaning_of K.eq (hears_clones K.is_clone V.is_clone L.tells) P.says W.weighs C.reads
+            X.created X.read X.updated)
+            (RemovesEntry key
+            (key_hash S.BuildHasher S.Hasher.Hasher self.old.engine.hasher (K.hash_input key)) now taken)
+            self.old.engine clock.old self.new.engine clock.new
+            × (option_map (λ t. t.0) taken
+            ≡ option_map (λ r. r.value) (record_of_key K.eq self.old.engine.state.records key)) }
+        ensures gone { record_of_key K.eq self.new.engine.state.records key ≡ None }
+        ensures counted { self.new.stats ≡ self.old.stats }
+    {
+        // None is there if the run of maintenance that the look-up made had taken it already.
+        let Some((value, told)) = self.take(&key, hash, now, clock) else {
+            return Ok(CompResult::StillNone(key));
+        };
+        match told {
+            Ok(()) => Ok(CompResult::Removed(found(key, value))),
+            Err(error) => Err(ComputeRefused::NotTold(key, NotTold { error, value })),
+        }
+    }
+}

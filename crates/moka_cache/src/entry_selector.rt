@@ -1,0 +1,214 @@
+//! Entry calls by moka's names: `cache.entry(key)` hands out a selector, and each of its methods is one call of the
+//! cache.
+//! moka: `sync::entry_selector`.
+ghost use Rattle.std.specs.Prelude.{◌≡◌, false, Option, Result, option_copied};
+ghost use Rattle.moka_parts.specs.Calls.{ContainsStep};
+ghost use Rattle.moka_parts.specs.declared.error.InsertRefused.{InsertRefused};
+ghost use Rattle.moka_cache.specs.Computing.{AndUpserts, AndComputes};
+ghost use Rattle.moka_cache.specs.Entries.{OrInserts, OrInsertsMade, OrInsertsIfMade, OrInsertsIfNoError};
+ghost use Rattle.moka_cache.specs.Given.{Sees};
+ghost use Rattle.moka_parts.specs.Hashing.{key_hash};
+ghost use Rattle.moka_cache.specs.Synchronous.{meaning_of, hears_clones};
+
+use crate::cache::Cache;
+use crate::compute::{CompResult, ComputeRefused, Op};
+use crate::entry::CacheEntry;
+use crate::error::GetWithRefused;
+use moka_parts::closures::{PredicateFn, Weigher};
+use moka_parts::error::InsertRefused;
+use moka_parts::housekeeper::Clock;
+use moka_parts::notification::Listener;
+use moka_parts::policy::{Expiry, Instant};
+use std::hash::{BuildHasher, Hash};
+
+/// A key of a cache, of which one entry call is to be made. Nothing is hashed or looked up before. moka:
+/// `OwnedKeyEntrySelector`.
+#[derive(Drop)]
+pub struct OwnedKeyEntrySelector<'a, K: Eq + Hash, V, X: Expiry<K, V>, L, P, W, S: BuildHasher> {
+    cache: &'a mut Cache<K, V, X, L, P, W, S>,
+    key: K,
+}
+
+impl<
+    K: Eq + Hash,
+    V,
+    X: Expiry<K, V>,
+    L: Listener<K, V>,
+    P: PredicateFn<K, V>,
+    W: Weigher<K, V>,
+    S: BuildHasher,
+> Cache<K, V, X, L, P, W, S> {
+    /// Selects a key for one entry call. moka: `entry`.
+    pub fn entry(&mut self, key: K) -> OwnedKeyEntrySelector<'_, K, V, X, L, P, W, S>
+        ensures same_cache { result.cache.ghost_name ≡ self.entry.ghost_name }
+        ensures unchanged { result.cache.now ≡ self.old }
+        ensures key { result.key ≡ key }
+    {
+        OwnedKeyEntrySelector { cache: self, key }
+    }
+}
+
+impl<
+    'a,
+    K: Eq + Hash,
+    V,
+    X: Expiry<K, V>,
+    L: Listener<K, V>,
+    P: PredicateFn<K, V>,
+    W: Weigher<K, V>,
+    S: BuildHasher,
+> OwnedKeyEntrySelector<'a, K, V, X, L, P, W, S> {
+    /// The key's entry, with a clone of its value, if it is there and visible at the moment `now`; and else `value` is
+    /// inserted. moka: `or_insert`.
+    ///
+    /// # Errors
+    /// As `Cache::get_or_insert`.
+    pub fn or_insert<C: Clock>(
+        self,
+        value: V,
+        now: Instant,
+        clock: &mut C,
+    ) -> Result<CacheEntry<K, V>, InsertRefused<K, V>>
+    where
+        K: Clone + Drop,
+        V: Clone + Drop,
+        P: Drop,
+        ensures { OrInserts (meaning_of K.eq L.tells P.says W.weighs C.reads X.created X.read X.updated)
+            K.is_clone V.is_clone self.entry.key (key_hash S.BuildHasher S.Hasher.Hasher
+            self.entry.cache.now.engine.hasher (K.hash_input self.entry.key)) now
+            self.entry.cache.now clock.old self.exit.0.now clock.new value result }
+    {
+        let OwnedKeyEntrySelector { cache, key } = self;
+        cache.get_or_insert(key, value, now, clock)
+    }
+
+    /// As `or_insert`, for the value that `init` makes, which is called only if the key is not there. moka:
+    /// `or_insert_with`.
+    ///
+    /// # Errors
+    /// As `Cache::get_or_insert_with`.
+    pub fn or_insert_with<F: FnOnce() -> V, C: Clock>(
+        self,
+        init: F,
+        now: Instant,
+        clock: &mut C,
+    ) -> Result<CacheEntry<K, V>, GetWithRefused<K, V>>
+    where
+        K: Clone + Drop,
+        V: Clone + Drop,
+        P: Drop,
+        requires callable { ContainsStep P.says K.eq self.cache.now.engine.state self.key now.0 false → F.pre init }
+        ensures { OrInsertsMade (meaning_of K.eq L.tells P.says W.weighs C.reads X.created X.read X.updated)
+            K.is_clone V.is_clone self.entry.key (key_hash S.BuildHasher S.Hasher.Hasher
+            self.entry.cache.now.engine.hasher (K.hash_input self.entry.key)) now
+            self.entry.cache.now clock.old self.exit.0.now clock.new (F.post init) result }
+    {
+        let OwnedKeyEntrySelector { cache, key } = self;
+        cache.get_or_insert_with(key, init, now, clock)
+    }
+
+    /// As `or_insert_with`, for a maker that may decline: then nothing is inserted, and `None` is answered. moka:
+    /// `or_optionally_insert_with`.
+    ///
+    /// # Errors
+    /// As `Cache::get_or_insert_with`.
+    pub fn or_optionally_insert_with<F: FnOnce() -> Option<V>, C: Clock>(
+        self,
+        init: F,
+        now: Instant,
+        clock: &mut C,
+    ) -> Result<Option<CacheEntry<K, V>>, GetWithRefused<K, V>>
+    where
+        K: Clone + Drop,
+        V: Clone + Drop,
+        P: Drop,
+        requires callable { ContainsStep P.says K.eq self.cache.now.engine.state self.key now.0 false → F.pre init }
+        ensures { OrInsertsIfMade (meaning_of K.eq L.tells P.says W.weighs C.reads X.created X.read X.updated)
+            K.is_clone V.is_clone self.entry.key (key_hash S.BuildHasher S.Hasher.Hasher
+            self.entry.cache.now.engine.hasher (K.hash_input self.entry.key)) now
+            self.entry.cache.now clock.old self.exit.0.now clock.new (F.post init) result }
+    {
+        let OwnedKeyEntrySelector { cache, key } = self;
+        cache.get_or_optionally_insert_with(key, init, now, clock)
+    }
+
+    /// As `or_insert_with`, for a maker that may fail: then nothing is inserted, and its error is answered. moka:
+    /// `or_try_insert_with`.
+    ///
+    /// # Errors
+    /// The outer error as `Cache::get_or_insert_with`; the inner one is the maker's.
+    pub fn or_try_insert_with<E, F: FnOnce() -> Result<V, E>, C: Clock>(
+        self,
+        init: F,
+        now: Instant,
+        clock: &mut C,
+    ) -> Result<Result<CacheEntry<K, V>, E>, GetWithRefused<K, V>>
+    where
+        K: Clone + Drop,
+        V: Clone + Drop,
+        P: Drop,
+        requires callable { ContainsStep P.says K.eq self.cache.now.engine.state self.key now.0 false → F.pre init }
+        ensures { OrInsertsIfNoError (meaning_of K.eq L.tells P.says W.weighs C.reads X.created X.read X.updated)
+            K.is_clone V.is_clone self.entry.key (key_hash S.BuildHasher S.Hasher.Hasher
+            self.entry.cache.now.engine.hasher (K.hash_input self.entry.key)) now
+            self.entry.cache.now clock.old self.exit.0.now clock.new (F.post init) result }
+    {
+        let OwnedKeyEntrySelector { cache, key } = self;
+        cache.get_or_try_insert_with(key, init, now, clock)
+    }
+
+    /// Puts the value that `f` makes of a clone of the key's value, or of `None` if the key is not there or not visible
+    /// at the moment `now`. moka: `and_upsert_with`.
+    ///
+    /// # Errors
+    /// As `Cache::upsert_with`.
+    pub fn and_upsert_with<F: FnOnce(Option<V>) -> V, C: Clock>(
+        self,
+        f: F,
+        now: Instant,
+        clock: &mut C,
+    ) -> Result<CacheEntry<K, V>, GetWithRefused<K, V>>
+    where
+        K: Clone + Drop,
+        V: Clone + Drop,
+        P: Drop,
+        requires callable { (seen : Option V)
+            → Sees K.eq P.says V.is_clone self.cache.now.engine.state self.key now.0 seen → F.pre f seen }
+        ensures { AndUpserts (meaning_of K.eq L.tells P.says W.weighs C.reads X.created X.read X.updated)
+            K.is_clone V.is_clone self.entry.key (key_hash S.BuildHasher S.Hasher.Hasher
+            self.entry.cache.now.engine.hasher (K.hash_input self.entry.key)) now
+            self.entry.cache.now clock.old self.exit.0.now clock.new (F.post f) result }
+    {
+        let OwnedKeyEntrySelector { cache, key } = self;
+        cache.upsert_with(key, f, now, clock)
+    }
+
+    /// Puts a value, takes the key out, or does nothing, as `f` answers, which sees a clone of the key's value, or
+    /// `None` if the key is not there or not visible at the moment `now`. moka: `and_compute_with`.
+    ///
+    /// # Errors
+    /// As `Cache::compute_with`.
+    pub fn and_compute_with<F: FnOnce(Option<&V>) -> Op<V>, C: Clock>(
+        self,
+        f: F,
+        now: Instant,
+        clock: &mut C,
+    ) -> Result<CompResult<K, V>, ComputeRefused<K, V>>
+    where
+        K: Clone + Drop,
+        V: Clone + Drop,
+        P: Drop,
+        requires callable { (seen : _)
+            → Sees K.eq P.says V.is_clone self.cache.now.engine.state self.key now.0 (option_copied seen)
+            → F.pre f seen }
+        ensures { AndComputes (meaning_of K.eq (hears_clones K.is_clone V.is_clone L.tells) P.says W.weighs C.reads
+            X.created X.read X.updated)
+            K.is_clone V.is_clone self.entry.key (key_hash S.BuildHasher S.Hasher.Hasher
+            self.entry.cache.now.engine.hasher (K.hash_input self.entry.key)) now
+            self.entry.cache.now clock.old self.exit.0.now clock.new (λ seen op. (x : _) × (option_copied x ≡ seen)
+            × F.post f x op) result }
+    {
+        let OwnedKeyEntrySelector { cache, key } = self;
+        cache.compute_with(key, f, now, clock)
+    }
+}

@@ -1,0 +1,152 @@
+//! Worked calls of the synchronous cache, each of an empty one.
+use crate::answers::is_entry;
+use crate::config::{NOW, Tested, config};
+use crate::makers::{failing, nothing, one_more, taken_out, ten, twenty};
+use crate::saves::{fill_apart, lists, refuses_entries, restores};
+use moka_cache::{Cache, CompResult, Removals, Stats};
+use moka_engine::FixedClock;
+use std::alloc::Global;
+
+enum Case {
+    SendsAtOnce,
+    RunsByItself,
+    MakesValues,
+    InsertsEntries,
+    Computes,
+    CountsRemovals,
+    RefusesEntries,
+    IsRestored,
+}
+
+// What is tested of a cache, and whether runs come by themselves.
+const CASES: [(Case, &str, bool); 8] = [
+    (Case::SendsAtOnce, "operations are sent at once", false),
+    (Case::RunsByItself, "a run comes by itself", true),
+    (
+        Case::MakesValues,
+        "a value is made once, and look-ups are counted",
+        true,
+    ),
+    (
+        Case::InsertsEntries,
+        "an entry is inserted if its key is not there",
+        true,
+    ),
+    (Case::Computes, "what is there is computed", true),
+    (Case::CountsRemovals, "removals are counted", true),
+    (Case::RefusesEntries, "an entry is put back once", true),
+    (
+        Case::IsRestored,
+        "what was saved is put back, in the order of access",
+        true,
+    ),
+];
+
+#[test]
+fn answers_as_it_should(rt: HostRuntime) {
+    for (case, name, is_automatic) in &CASES {
+        let Ok(mut engine) = config().build(rt.alloc(), NOW) else {
+            panic!(rt; "memory");
+        };
+        if !*is_automatic {
+            engine.disable_auto_run();
+        }
+        let mut cache = Cache::new(engine);
+        assert!(rt; is_right(rt.alloc(), &mut cache, case), "{name}");
+    }
+}
+
+fn is_right(alloc: Global, cache: &mut Tested, case: &Case) -> bool {
+    match case {
+        Case::SendsAtOnce => sends_at_once(cache),
+        Case::RunsByItself => fill(cache, 65) && waiting(cache) == (0, 1, 64),
+        Case::MakesValues => makes_values(cache),
+        Case::InsertsEntries => inserts_entries(cache),
+        Case::Computes => computes(cache),
+        Case::CountsRemovals => counts_removals(cache),
+        Case::RefusesEntries => refuses_entries(cache),
+        Case::IsRestored => {
+            fill_apart(cache) && lists(cache) && restores(alloc, cache) && lists(cache)
+        }
+    }
+}
+
+// Puts the keys below a number in.
+fn fill(cache: &mut Tested, keys: u64) -> bool {
+    for key in 0..keys {
+        if cache.insert(key, key, NOW, &mut FixedClock(NOW)).is_err() {
+            return false;
+        }
+    }
+    true
+}
+
+// How many tickets are outstanding, how many writes are queued, and how many entries are counted.
+fn waiting(cache: &Tested) -> (u64, usize, u64) {
+    let engine = cache.engine();
+    (
+        engine.outstanding(),
+        engine.queued_writes(),
+        cache.entry_count(),
+    )
+}
+
+fn sends_at_once(cache: &mut Tested) -> bool {
+    let is_sent = fill(cache, 400) && waiting(cache) == (0, 16, 384);
+    cache.run_pending_tasks(NOW, &mut FixedClock(NOW));
+    is_sent && waiting(cache) == (0, 0, 400)
+}
+
+// Whether a key has no value after a maker that gives none, and then the first that is made.
+fn makes_values(cache: &mut Tested) -> bool {
+    let clock = &mut FixedClock(NOW);
+    let is_declined = matches!(cache.optionally_get_with(1, nothing, NOW, clock), Ok(None));
+    let is_made = matches!(cache.get_with(1, twenty, NOW, clock), Ok(20));
+    let is_found = matches!(cache.try_get_with(1, ten, NOW, clock), Ok(Ok(20)));
+    let Stats {
+        hits,
+        misses,
+        loads,
+    } = cache.stats();
+    is_declined && is_made && is_found && (hits, misses, loads) == (1, 2, 2)
+}
+
+// Whether a key has no entry after a maker that gives none and one that fails, and then the first that is put.
+fn inserts_entries(cache: &mut Tested) -> bool {
+    let clock = &mut FixedClock(NOW);
+    let declined = cache.get_or_optionally_insert_with(1, nothing, NOW, clock);
+    let is_declined = matches!(declined, Ok(None));
+    let failed = cache.get_or_try_insert_with(1, failing, NOW, clock);
+    let is_failed = matches!(failed, Ok(Err(7)));
+    let put = cache.get_or_insert(1, 10, NOW, clock);
+    let is_put = is_entry(put, (10, true, false));
+    let found = cache.get_or_insert_with(1, twenty, NOW, clock);
+    is_declined && is_failed && is_put && is_entry(found, (10, false, false))
+}
+
+// Whether a value is put, another one in its place, and that one is taken out.
+fn computes(cache: &mut Tested) -> bool {
+    let clock = &mut FixedClock(NOW);
+    let put = cache.upsert_with(1, one_more, NOW, clock);
+    let is_put = is_entry(put, (1, true, false));
+    let replaced = cache.upsert_with(1, one_more, NOW, clock);
+    let is_replaced = is_entry(replaced, (2, true, true));
+    let taken = cache.compute_with(1, taken_out, NOW, clock);
+    is_put
+        && is_replaced
+        && matches!(taken, Ok(CompResult::Removed(_)))
+        && !cache.contains_key(&1, NOW)
+}
+
+// Whether removals are counted of two keys that are given two values each, and of which one is taken out.
+fn counts_removals(cache: &mut Tested) -> bool {
+    let are_replaced = fill(cache, 2) && fill(cache, 2);
+    let removed = cache.remove(&1, NOW, &mut FixedClock(NOW));
+    let is_removed = matches!(removed, Ok(Some(1)));
+    let Removals {
+        explicit,
+        replaced,
+        ..
+    } = cache.removals();
+    are_replaced && is_removed && (explicit, replaced) == (1, 2)
+}

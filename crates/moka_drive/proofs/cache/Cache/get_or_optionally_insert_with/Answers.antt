@@ -1,9 +1,0 @@
-use Rattle.std.proofs.Common.{rules, of_calls}
-use Rattle.moka_parts.specs.Hashing.{key_hash}
-use Rattle.moka_drive.proofs.Entries.{may_be_fresh}
-use Rattle.moka_drive.proofs.cache.Cache.get_or_optionally_insert_with.Goals as goal
-
-pub returns : goal.returns
-returns g c =
-    let hash = key_hash g.S.BuildHasher g.S.Hasher.Hasher c.args.self.now.engine.hasher (g.K.Hash.hash_input c.args.key) in
-    rw c.if_made.ensures (may_be_fresh g.K.Clone.is_clone g.V.Clone.is_clone _ c.args.key hash c.args.now c.args.self.now c.get_or_try_insert_with.new.self c.args.clock.now c.get_or_try_insert_with.new.clock _ (g.F.FnOnce.post c.args.init tt) c.get_or_try_insert_with.result c.get_or_try_insert_with.ensures (λ a called. search (of_calls, rules)))

@@ -1,5 +1,0 @@
-use Rattle.std.proofs.Common.{rules}
-use Rattle.moka_drive.proofs.cache.Cache.save.Goals as goal
-
-pub returns-clause-members : goal.returns-clause-members
-returns-clause-members g c = search rules
