@@ -11,16 +11,16 @@ use Rattle.moka_parts.specs.declared.records.Record.{Record}
 use Rattle.moka_parts.specs.Records.{Records, record_of_key}
 use Rattle.moka_parts.specs.State.{State, Meaning}
 use Rattle.moka_parts.specs.Runs.{Engine}
-use Rattle.moka_cache.specs.declared.entry.CacheEntry.{CacheEntry}
-use Rattle.moka_cache.specs.declared.error.GetWithRefused.{GetWithRefused}
-use Rattle.moka_cache.specs.declared.error.GetWithRefused.TheVariants.{Insert}
-use Rattle.moka_cache.specs.Synchronous.{Makes, hears_clones, InsertsMade, GetsValue, RemovesEntry, HandsOutOwn}
-use Rattle.moka_cache.specs.Entries.{entry_value, IsFresh}
-use Rattle.moka_cache.specs.Given.{Sees}
-use Rattle.moka_cache.specs.declared.compute.CompResult.TheVariants.{Inserted, ReplacedWith}
-use Rattle.moka_cache.specs.declared.compute.ComputeRefused.TheVariants as compute_refused
-use Rattle.moka_cache.specs.Computing.{InTurn, Upserts, HandsOutUpserted, Puts, Takes, Computes, HandsOutComputedPut}
-use Rattle.moka_cache.proofs.Made.{made_then, made_more}
+use Rattle.moka_calls.specs.declared.entry.CacheEntry.{CacheEntry}
+use Rattle.moka_calls.specs.declared.error.GetWithRefused.{GetWithRefused}
+use Rattle.moka_calls.specs.declared.error.GetWithRefused.TheVariants.{Insert}
+use Rattle.moka_calls.specs.Synchronous.{Makes, hears_clones, InsertsMade, GetsValue, RemovesEntry, HandsOutOwn}
+use Rattle.moka_calls.specs.Entries.{entry_value, IsFresh}
+use Rattle.moka_calls.specs.Given.{Sees}
+use Rattle.moka_calls.specs.declared.compute.CompResult.TheVariants.{Inserted, ReplacedWith}
+use Rattle.moka_calls.specs.declared.compute.ComputeRefused.TheVariants as compute_refused
+use Rattle.moka_calls.specs.Computing.{InTurn, Upserts, HandsOutUpserted, Puts, Takes, Computes, HandsOutComputedPut}
+use Rattle.moka_calls.proofs.Made.{made_then, made_more}
 use Rattle.moka_cache.proofs.Entries.{same_hash}
 
 -- what became of an insert, as the answer of an upsert

@@ -15,12 +15,12 @@ use Rattle.moka_parts.specs.declared.error.InsertRefused.{InsertRefused}
 use Rattle.moka_parts.specs.State.{Meaning}
 use Rattle.moka_parts.specs.Copies.{IsCopiedAnswer}
 use Rattle.moka_parts.specs.Runs.{Engine}
-use Rattle.moka_cache.specs.declared.error.GetWithRefused.{GetWithRefused}
-use Rattle.moka_cache.specs.declared.error.GetWithRefused.TheVariants.{Lookup, Insert}
-use Rattle.moka_cache.specs.Given.{ComesBack, IsHandedOut, Sees, if_made, without_error}
-use Rattle.moka_cache.specs.Synchronous.{Made, Makes, InsertsEntry, InsertsMade, GetsValue, GetsThen, GetsOrInserts, Synchronous, HandsOutOwn, IsGotWith, IsGotWithIfMade, IsGotWithIfNoError, value_found}
-use Rattle.moka_cache.specs.Counters.{one_more, after_look_up, after_load}
-use Rattle.moka_cache.proofs.Made.{made_nothing, made_then}
+use Rattle.moka_calls.specs.declared.error.GetWithRefused.{GetWithRefused}
+use Rattle.moka_calls.specs.declared.error.GetWithRefused.TheVariants.{Lookup, Insert}
+use Rattle.moka_calls.specs.Given.{ComesBack, IsHandedOut, Sees, if_made, without_error}
+use Rattle.moka_calls.specs.Synchronous.{Made, Makes, InsertsEntry, InsertsMade, GetsValue, GetsThen, GetsOrInserts, Synchronous, HandsOutOwn, IsGotWith, IsGotWithIfMade, IsGotWithIfNoError, value_found}
+use Rattle.moka_parts.specs.Counters.{one_more, after_look_up, after_load}
+use Rattle.moka_calls.proofs.Made.{made_nothing, made_then}
 
 -- what was made leaves the hasher
 pub made_keeps_hasher : {K V S X L P W C : Type 0} (m : Meaning K V X L P W C (Unit {0})) (calls : List (Call K V P)) (replies : List (Reply K V P)) (old new : Engine K V S X L P W) (clock clock_after : C) → Made m calls replies old clock new clock_after → new.hasher ≡ old.hasher

@@ -5,10 +5,10 @@ use Rattle.moka_parts.specs.declared.policy.Instant.{Instant}
 use Rattle.moka_parts.specs.Copies.{IsCopiedAnswer}
 use Rattle.moka_parts.specs.State.{Meaning}
 use Rattle.moka_parts.specs.Runs.{Engine}
-use Rattle.moka_cache.specs.declared.stats.Stats.{Stats}
-use Rattle.moka_cache.specs.Counters.{after_look_up, after_look_ups}
-use Rattle.moka_cache.specs.Many.{GetsItem}
-use Rattle.moka_cache.specs.Synchronous.{GetsValue, Makes}
+use Rattle.moka_parts.specs.declared.stats.Stats.{Stats}
+use Rattle.moka_parts.specs.Counters.{after_look_up, after_look_ups}
+use Rattle.moka_calls.specs.Many.{GetsItem}
+use Rattle.moka_calls.specs.Synchronous.{GetsValue, Makes}
 
 -- one look-up more is counted
 pub counts_one_more : {V : Type 0} (found : List (Option V)) (one : Option V) (s : Stats) → after_look_ups (found ++ one ∷ []) s ≡ after_look_up {V = V} {E = OutOfMemory} (Ok one) (after_look_ups found s)

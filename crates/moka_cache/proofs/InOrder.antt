@@ -6,10 +6,10 @@ use Rattle.moka_parts.specs.State.{Meaning}
 use Rattle.moka_parts.specs.Runs.{Engine}
 use Rattle.moka_parts.specs.declared.error.InsertRefused.{InsertRefused}
 use Rattle.moka_parts.specs.declared.policy.Instant.{Instant}
-use Rattle.moka_cache.specs.Synchronous.{InsertsEntry, Makes}
-use Rattle.moka_cache.specs.Computing.{InTurn}
-use Rattle.moka_cache.specs.Many.{Each}
-use Rattle.moka_cache.proofs.Made.{made_nothing, made_then}
+use Rattle.moka_calls.specs.Synchronous.{InsertsEntry, Makes}
+use Rattle.moka_calls.specs.Computing.{InTurn}
+use Rattle.moka_calls.specs.Many.{Each}
+use Rattle.moka_calls.proofs.Made.{made_nothing, made_then}
 use Rattle.moka_cache.proofs.Getting.{made_keeps_hasher}
 
 -- calls of one more item

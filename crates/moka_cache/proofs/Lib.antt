@@ -1,5 +1,3 @@
-pub mod Made
-pub mod Limits
 pub mod Waiting
 pub mod Posting
 pub mod Asking
@@ -8,13 +6,8 @@ pub mod ByTest
 pub mod Stays
 pub mod Put
 pub mod Getting
-pub mod Lists
-pub mod Anytime
 pub mod Alike
 mod Listing
-mod Counting
-mod Registering
-mod Telling
 pub mod Entries
 pub mod Computing
 pub mod InOrder
@@ -28,3 +21,7 @@ pub mod Membership
 mod Answering
 mod MadeAgain
 pub mod Saving
+pub use Rattle.moka_calls.proofs.Made
+pub use Rattle.moka_calls.proofs.Lists
+pub use Rattle.moka_calls.proofs.Anytime
+pub use Rattle.moka_calls.proofs.Limits

@@ -19,14 +19,14 @@ use Rattle.moka_parts.specs.Listed.{ListedRun}
 use Rattle.moka_parts.proofs.Kept.{kept_by_run, kept_by_due}
 use Rattle.moka_parts.proofs.RunKeeps.{keeps_itself}
 use Rattle.moka_cache.specs.Saved.{KeepsRecords, TakesOnlyExpired}
-use Rattle.moka_cache.specs.Synchronous.{Made, Makes, Posts, own_run}
+use Rattle.moka_calls.specs.Synchronous.{Made, Makes, Posts, own_run}
 use Rattle.moka_cache.specs.Unsent.{IsHeld, AreOlder, HoldsUnsent, HidesNoMore}
 use Rattle.moka_cache.proofs.Alike.{itself, then, none_kept, send_hides}
 use Rattle.moka_cache.proofs.Keeping.{keeps_then, listed_run_keeps, send_keeps}
 use Rattle.moka_cache.proofs.Lasting.{keeps_itself as lasts_itself, keeps_then as lasts_then, keeps_to as lasts_to, listed_run_lasts, send_lasts}
-use Rattle.moka_cache.proofs.Made.{made_one, made_then}
+use Rattle.moka_calls.proofs.Made.{made_one, made_then}
 use Rattle.moka_cache.proofs.Stays.{run_holds, send_holds}
-use Rattle.moka_engine.proofs.Alike.{IsAlike, alike_itself, due_alike, listed_run_alike}
+use Rattle.moka_parts.proofs.Alike.{IsAlike, alike_itself, due_alike, listed_run_alike}
 use Rattle.moka_cache.proofs.Waiting.{sent_alone, refused_alone, sent_when_empty, alone_in_order}
 
 -- ---- what a run leaves
@@ -108,6 +108,11 @@ module _ {K V S X L P W C : Type 0} (m : Meaning K V X L P W C (Unit {0})) where
   pub made_run : (old new : Engine K V S X L P W) (clock clock_after : C) (now : Instant) (more : Bool) (e : Events K V) → RunStep (ListedRun m.says m.read old.write_list new.write_list) old.state (record { now = now.0; limit = None; batch = 384 }) more e new.state → Befalls m.tells e old new → Leads m.observes clock e.readings clock_after
       → Made m (own_run now ∷ []) (reply.Run more ∷ []) old clock new clock_after
   made_run old new clock clock_after now more e step befell read = made_one m old new clock clock_after (own_run now) (reply.Run more) e step befell read (ap (λ (x : Events K V). x.ids) step.3) tt
+
+  -- the same of terms that turn out to be its own
+  pub run_made : (old new : Engine K V S X L P W) (clock clock_after : C) (now : Instant) (terms : Terms) (more : Bool) (e : Events K V) → RunStep (ListedRun m.says m.read old.write_list new.write_list) old.state terms more e new.state → terms ≡ record { now = now.0; limit = None; batch = 384 } → Befalls m.tells e old new → Leads m.observes clock e.readings clock_after
+      → Made m (own_run now ∷ []) (reply.Run more ∷ []) old clock new clock_after
+  run_made old new clock clock_after now terms more e step own = made_run old new clock clock_after now more e (subst (λ t. RunStep (ListedRun m.says m.read old.write_list new.write_list) old.state t more e new.state) own step)
 
   module _ (now : Instant) (ticket : Ticket) (old : Engine K V S X L P W) (clock : C) where
     -- the ticket was posted: what was made, and what was left

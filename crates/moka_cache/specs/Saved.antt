@@ -22,7 +22,7 @@ use Rattle.moka_engine.specs.declared.base_cache.restores.RestoreRefused.{Restor
 use Rattle.moka_engine.specs.Restores.{RestoreStep}
 use Rattle.moka_engine.specs.Snapshots.{Scene, Seen, IsListed, IsPassed, scene_of}
 use Rattle.moka_cache.specs.declared.cache.saves.RestoreManyRefused.{RestoreManyRefused}
-use Rattle.moka_cache.specs.Synchronous.{Makes, Posts}
+use Rattle.moka_calls.specs.Synchronous.{Makes, Posts}
 use Rattle.moka_cache.specs.Unsent.{HidesNoMore}
 
 -- each record is a member of the access list

@@ -16,13 +16,12 @@ ghost use Rattle.moka_parts.specs.declared.records.Operation.{Operation};
 ghost use Rattle.moka_parts.specs.declared.records.Record.{Record};
 ghost use Rattle.moka_parts.specs.Hashing.{key_hash};
 ghost use Rattle.moka_cache.specs.Unsent.{HoldsUnsent, HidesNoMore, IsThere, ShowsWrites};
-ghost use Rattle.moka_cache.specs.Counters.{after_look_up, after_load};
-ghost use Rattle.moka_cache.specs.Given.{Sees, if_made, without_error};
+ghost use Rattle.moka_parts.specs.Counters.{after_look_up, after_load};
+ghost use Rattle.moka_calls.specs.Given.{Sees, if_made, without_error};
 ghost use Rattle.moka_cache.specs.Saved.{HasOnlyMembers, KeepsRecords, TakesOnlyExpired};
-ghost use Rattle.moka_cache.specs.Synchronous.{fresh, value_found, InsertsMade, HandsOutOwn, Makes, meaning_of, hears_clones, Just, own_run, Posts, InsertsEntry, GetsValue, RemovesEntry, removed, invalidated, taken_out, GetsWith, GetsWithIfMade, GetsWithIfNoError};
+ghost use Rattle.moka_calls.specs.Synchronous.{fresh, value_found, InsertsMade, HandsOutOwn, Makes, meaning_of, hears_clones, Just, own_run, Posts, InsertsEntry, GetsValue, RemovesEntry, removed, invalidated, taken_out, GetsWith, GetsWithIfMade, GetsWithIfNoError};
 
-use crate::error::{GetWithRefused, NotTold};
-use crate::stats::Stats;
+use moka_calls::error::{GetWithRefused, NotTold};
 use moka_engine::base_cache::BaseCache;
 use moka_engine::config::{CacheConfig, DefaultHasher};
 use moka_parts::calls::{Entry, Ticket};
@@ -30,8 +29,10 @@ use moka_parts::closures::{NoPredicate, NoWeigher, PredicateFn, Weigher};
 use moka_parts::error::{CapacityError, InsertError, InsertRefused, OutOfMemory, PredicateRefused};
 use moka_parts::housekeeper::{Clock, EVICTION_BATCH_SIZE, MAX_LOG_SYNC_REPEATS};
 use moka_parts::invalidator::{IdSource, PredicateId};
+use moka_parts::key_test::SameKey;
 use moka_parts::notification::{Listener, NoListener};
 use moka_parts::policy::{Expiry, Instant, NoExpiry, Policy};
+use moka_parts::stats::Stats;
 use std::alloc::Global;
 use std::convert::Infallible;
 use std::hash::{BuildHasher, Hash};
@@ -70,7 +71,7 @@ impl<K: Eq + Hash, V, X: Expiry<K, V>, L, P, W, S: BuildHasher> Model
     ghost use Rattle.std.specs.Prelude.{◌≡◌};
     ghost use Rattle.std.specs.Coded.{codes, coded_ℕ};
     ghost use Rattle.std.specs.FinMap as finite;
-    ghost use Rattle.moka_cache.specs.Synchronous.{Synchronous};
+    ghost use Rattle.moka_calls.specs.Synchronous.{Synchronous};
 
     ghost Value = { Synchronous K V S X L P W };
 
@@ -417,13 +418,7 @@ impl<
             ≡ option_map (λ r. r.value) (record_of_key K.eq self.old.engine.state.records key.now) }
         ensures counted { self.new.stats ≡ self.old.stats }
     {
-        self.engine.invariant_holds();
-        let Some((entry, ticket)) = self.engine.remove_entry_with_own_hash(key, hash) else {
-            return None;
-        };
-        let told = self.engine.notify_invalidate(&entry, now);
-        Self::post(&mut self.engine, ticket, now, clock);
-        Some((entry.value, told))
+        self.take_by(&SameKey(key), hash, now, clock)
     }
 
     /// A clone of a key's value, if the key is there and visible at the moment `now`, and else the value that `init`

@@ -3,89 +3,22 @@ ghost use Rattle.std.specs.Prelude.{◌≡◌, Option, Some, None, Result, Ok, E
 ghost use Rattle.moka_parts.specs.Records.{record_of_key};
 ghost use Rattle.moka_parts.specs.declared.error.InsertRefused.{InsertRefused};
 ghost use Rattle.moka_parts.specs.declared.error.OutOfMemory.{OutOfMemory};
-ghost use Rattle.moka_cache.specs.Computing.{HandsOutComputedPut, HandsOutTaken, AndUpserts, AndComputes};
-ghost use Rattle.moka_cache.specs.Given.{Sees};
+ghost use Rattle.moka_calls.specs.Computing.{HandsOutComputedPut, HandsOutTaken, AndUpserts, AndComputes};
+ghost use Rattle.moka_calls.specs.Given.{Sees};
 ghost use Rattle.moka_parts.specs.Hashing.{key_hash};
-ghost use Rattle.moka_cache.specs.Synchronous.{InsertsMade, Makes, RemovesEntry, hears_clones, meaning_of};
+ghost use Rattle.moka_calls.specs.Synchronous.{InsertsMade, Makes, RemovesEntry, hears_clones, meaning_of};
 
 use crate::cache::{Cache, Put};
-use crate::entry::{CacheEntry, found};
-use crate::error::{GetWithRefused, NotTold};
+use crate::entry::found;
+pub use moka_calls::compute::{CompResult, ComputeRefused, Op};
+use moka_calls::entry::CacheEntry;
+use moka_calls::error::{GetWithRefused, NotTold};
 use moka_parts::closures::{PredicateFn, Weigher};
 use moka_parts::error::{InsertRefused, OutOfMemory};
 use moka_parts::housekeeper::Clock;
 use moka_parts::notification::Listener;
 use moka_parts::policy::{Expiry, Instant};
-use std::error::Error;
-use std::fmt;
 use std::hash::{BuildHasher, Hash};
-
-/// What a closure of `compute_with` answers. moka: `ops::compute::Op`.
-#[derive(Debug, Drop)]
-pub enum Op<V> {
-    /// Leave the cache as it is.
-    Nop,
-    /// Put this value under the key.
-    Put(V),
-    /// Take the key out.
-    Remove,
-}
-
-/// What `compute_with` did. moka: `ops::compute::CompResult`.
-#[derive(Debug, Drop)]
-pub enum CompResult<K, V> {
-    /// The value was put, and the closure had seen none. A cache of capacity 0 answers this too, and drops it.
-    Inserted(CacheEntry<K, V>),
-    /// The value was put, and the closure had seen another.
-    ReplacedWith(CacheEntry<K, V>),
-    /// The key was taken out, with this value.
-    Removed(CacheEntry<K, V>),
-    /// No value was put, and none is there that could be taken out. The key comes back.
-    StillNone(K),
-    /// Nothing was done, and the closure had seen this value.
-    Unchanged(CacheEntry<K, V>),
-}
-
-/// Why `compute_with` did not do what was answered.
-#[derive(Debug, Drop)]
-pub enum ComputeRefused<K, V> {
-    /// Memory for a clone of the value that is there was refused. Nothing has changed, and the key comes back.
-    Lookup(K),
-    /// The value was not put, since memory for a clone of it or of the key, or for the insert, was refused, or tickets
-    /// are used up. The look-up stands, and key and value come back.
-    Insert(InsertRefused<K, V>),
-    /// The key was taken out, and the listener was not notified, since memory for a clone was refused. Key and value
-    /// come back.
-    NotTold(K, NotTold<V>),
-}
-
-impl<K, V> fmt::Display for ComputeRefused<K, V> {
-    ghost use Rattle.std.specs.Prelude.{Some};
-    ghost use Rattle.moka_cache.specs.Computing.{compute_text};
-
-    ghost output = { λ refused. Some (compute_text refused) };
-
-    fn fmt<W: fmt::Write>(&self, f: &mut fmt::Formatter<W>) -> fmt::Result {
-        match self {
-            ComputeRefused::Lookup(_) => write!(f, "{OutOfMemory}"),
-            ComputeRefused::Insert(refused) => write!(f, "{refused}"),
-            ComputeRefused::NotTold(_, refused) => write!(f, "{refused}"),
-        }
-    }
-}
-
-impl<K: fmt::Debug + Drop, V: fmt::Debug + Drop> Error for ComputeRefused<K, V> {}
-
-impl<K, V> From<InsertRefused<K, V>> for ComputeRefused<K, V> {
-    ghost use Rattle.std.specs.Prelude.{◌≡◌};
-    ghost use Rattle.moka_cache.specs.declared.compute.ComputeRefused.TheVariants.{Insert};
-
-    ghost from_gives = { λ refused error. error ≡ Insert refused };
-
-    fn from(refused: InsertRefused<K, V>) -> Self {
-        ComputeRefused::Insert(refused)
-    }
-}
 
 impl<
     K: Eq + Hash,

@@ -4,32 +4,19 @@
 ghost use Rattle.std.specs.Prelude.{◌≡◌, true, false, Option, Some, None, Result, Ok, Err, IfOk, IfErr};
 ghost use Rattle.moka_parts.specs.Calls.{ContainsStep};
 ghost use Rattle.moka_parts.specs.declared.error.InsertRefused.{InsertRefused};
-ghost use Rattle.moka_cache.specs.Entries.{entry_value, IsFresh, OrInserts, OrInsertsMade, OrInsertsIfMade, OrInsertsIfNoError};
+ghost use Rattle.moka_calls.specs.Entries.{entry_value, IsFresh, OrInserts, OrInsertsMade, OrInsertsIfMade, OrInsertsIfNoError};
 ghost use Rattle.moka_parts.specs.Hashing.{key_hash};
-ghost use Rattle.moka_cache.specs.Synchronous.{Makes, meaning_of, InsertsMade, HandsOutOwn};
+ghost use Rattle.moka_calls.specs.Synchronous.{Makes, meaning_of, InsertsMade, HandsOutOwn};
 
 use crate::cache::{Cache, Put, always_made, if_made};
-use crate::error::GetWithRefused;
+pub use moka_calls::entry::CacheEntry;
+use moka_calls::error::GetWithRefused;
 use moka_parts::closures::{PredicateFn, Weigher};
 use moka_parts::error::{InsertError, InsertRefused};
 use moka_parts::housekeeper::Clock;
 use moka_parts::notification::Listener;
 use moka_parts::policy::{Expiry, Instant};
 use std::hash::{BuildHasher, Hash};
-
-/// What an entry call answers. moka: `Entry`.
-#[derive(Debug, Drop)]
-pub struct CacheEntry<K, V> {
-    /// The caller's own key if the value was there, and a clone of it if the call put the value.
-    pub key: K,
-    /// A clone of the value.
-    pub value: V,
-    /// Whether the call put the value. It is true also of a cache of capacity 0, which drops the value instead.
-    pub is_fresh: bool,
-    /// Whether the look-up of a call that put the value saw another. A run of maintenance that the look-up started may
-    /// have removed that one before.
-    pub is_old_value_replaced: bool,
-}
 
 impl<
     K: Eq + Hash,

@@ -1,89 +1,21 @@
 //! Calls for many keys at once. Each makes the call for one key after the other, in order, and stops at the first that
 //! is refused.
 ghost use Rattle.std.specs.Prelude.{◌≡◌};
-ghost use Rattle.moka_cache.specs.Counters.{after_look_ups};
+ghost use Rattle.moka_parts.specs.Counters.{after_look_ups};
 ghost use Rattle.moka_parts.specs.Hashing.{key_hash};
-ghost use Rattle.moka_cache.specs.Many.{GetsMany, InsertsMany, InvalidatesMany, found_by};
-ghost use Rattle.moka_cache.specs.Synchronous.{Makes, hears_clones, meaning_of};
+ghost use Rattle.moka_calls.specs.Many.{GetsMany, InsertsMany, InvalidatesMany, found_by};
+ghost use Rattle.moka_calls.specs.Synchronous.{Makes, hears_clones, meaning_of};
 
 use crate::cache::Cache;
-use crate::error::NotTold;
+pub use moka_calls::many::{GetManyRefused, InsertManyRefused, InvalidateManyRefused};
 use moka_parts::closures::{PredicateFn, Weigher};
 use moka_parts::error::{InsertRefused, OutOfMemory};
 use moka_parts::housekeeper::Clock;
 use moka_parts::notification::Listener;
 use moka_parts::policy::{Expiry, Instant};
 use std::alloc::Global;
-use std::error::Error;
-use std::fmt;
 use std::hash::{BuildHasher, Hash};
 use std::vec::IntoIter;
-
-/// A look-up of many keys that stopped at one, since memory was refused.
-#[derive(Debug, Drop)]
-pub struct GetManyRefused<V> {
-    /// What the keys before it found, in order.
-    pub found: Vec<Option<V>>,
-}
-
-impl<V> fmt::Display for GetManyRefused<V> {
-    ghost use Rattle.std.specs.Prelude.{Some};
-    ghost use Rattle.moka_parts.specs.Texts.{out_of_memory_text};
-
-    ghost output = { λ _. Some out_of_memory_text };
-
-    fn fmt<W: fmt::Write>(&self, f: &mut fmt::Formatter<W>) -> fmt::Result {
-        write!(f, "{OutOfMemory}")
-    }
-}
-
-impl<V: fmt::Debug + Drop> Error for GetManyRefused<V> {}
-
-/// An insert of many items that stopped at one.
-#[derive(Debug, Drop)]
-pub struct InsertManyRefused<K, V> {
-    /// How many items were inserted.
-    pub done: usize,
-    /// The item that was refused, and why.
-    pub refused: InsertRefused<K, V>,
-    /// The items after it, in order.
-    pub rest: IntoIter<(K, V)>,
-}
-
-impl<K, V> fmt::Display for InsertManyRefused<K, V> {
-    ghost use Rattle.std.specs.Prelude.{Some};
-    ghost use Rattle.moka_parts.specs.Texts.{insert_text};
-
-    ghost output = { λ e. Some (insert_text e.refused.error) };
-
-    fn fmt<W: fmt::Write>(&self, f: &mut fmt::Formatter<W>) -> fmt::Result {
-        write!(f, "{}", self.refused)
-    }
-}
-
-impl<K: fmt::Debug + Drop, V: fmt::Debug + Drop> Error for InsertManyRefused<K, V> {}
-
-/// An invalidation of many keys that stopped at one, whose listener was not notified.
-#[derive(Debug, Drop)]
-pub struct InvalidateManyRefused<V> {
-    /// How many keys come before this one. They were taken out if they were there, and this one was as well.
-    pub done: usize,
-    /// The value that was taken out, and why its listener was not notified.
-    pub refused: NotTold<V>,
-}
-
-impl<V> fmt::Display for InvalidateManyRefused<V> {
-    ghost use Rattle.std.specs.Prelude.{Some};
-    ghost use Rattle.moka_parts.specs.Texts.{out_of_memory_text};
-
-    ghost output = { λ _. Some out_of_memory_text };
-
-    fn fmt<W: fmt::Write>(&self, f: &mut fmt::Formatter<W>) -> fmt::Result {
-        write!(f, "{}", self.refused)
-    }
-}
-
-impl<V: fmt::Debug + Drop> Error for InvalidateManyRefused<V> {}
 
 impl<
     K: Eq + Hash,

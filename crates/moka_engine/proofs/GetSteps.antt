@@ -31,7 +31,7 @@ use Rattle.moka_engine.specs.BaseCache.{IsStocked, IsWhole, expirations_of, expi
 use Rattle.moka_engine.specs.Looks.{IsFound, LooksUp, Touches, entry_at}
 use Rattle.moka_engine.specs.Makes.{Takes}
 use Rattle.moka_engine.proofs.EngineSteps.{with_inner, cache_with, order_and_hasher, cache_changed, befalls-inside, unexpiring-inserted, cache-inner, there-inside, number-inside, own-inside}
-use Rattle.moka_engine.proofs.Quiet.{befalls-nothing}
+use Rattle.moka_parts.proofs.Quiet.{befalls-nothing}
 use Rattle.moka_engine.proofs.Stocked.{stocked-touched, stays-unrenewed, same_duration}
 
 -- ---- what a hit makes of a record

@@ -19,7 +19,7 @@ use Rattle.moka_engine.specs.BaseCache.{IsWhole}
 use Rattle.moka_engine.specs.Makes.{EngineRuns, Takes}
 use Rattle.moka_inner.specs.Interior.{Interior}
 use Rattle.moka_engine.proofs.EngineSteps.{with_inner, cache_with, order_and_hasher, cache_changed}
-use Rattle.moka_engine.proofs.Quiet.{befalls-nothing}
+use Rattle.moka_parts.proofs.Quiet.{befalls-nothing}
 use Rattle.moka_engine.proofs.GetSteps.{reads_queued}
 
 -- the housekeeper of a state

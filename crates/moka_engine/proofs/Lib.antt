@@ -1,5 +1,3 @@
-pub mod Alike
-pub mod Quiet
 pub mod Stocked
 pub mod EngineSteps
 pub mod NewSteps
@@ -20,3 +18,5 @@ pub use Rattle.moka_parts.proofs.Copies
 pub use Rattle.moka_parts.proofs.Lookup
 pub use Rattle.moka_parts.proofs.Maps
 pub use Rattle.moka_parts.proofs.Values
+pub use Rattle.moka_parts.proofs.Alike
+pub use Rattle.moka_parts.proofs.Quiet

@@ -50,3 +50,5 @@ pub mod OrderedDrive
 pub mod PromisedLaws
 pub mod LeftIdle
 pub mod Tested
+pub mod Quiet
+pub mod Alike

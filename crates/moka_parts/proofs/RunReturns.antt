@@ -14,6 +14,7 @@ use Rattle.moka_parts.specs.Runs.{Befalls}
 use Rattle.moka_parts.specs.Listed.{ListedRun}
 use Rattle.moka_parts.proofs.AtEnd.{bare_is_exact}
 use Rattle.moka_parts.proofs.Maps.{nothing_at}
+use Rattle.moka_parts.proofs.Quiet.{nothing_heard}
 
 -- a run with all that is promised of it, from one write list to the other, and what listener and clock go through
 pub record IsPromised {K V X P W L C : Type 0} (says : P → K → V → Bool → Type 0) (read : X → K → V → ℕ → Option ℕ → ℕ → Option ℕ) (tells : L → K → V → RemovalCause → L → Type 0) (reads : C → Instant → C → Type 0)
@@ -38,11 +39,6 @@ run_returns {K} {V} {S} {X} {L} {P} {W} {C} {says} {read} {tells} {reads} {old} 
     )
 
 -- ---- a disabled cache
-
--- a listener that is notified of nothing stays the same
-nothing_heard : {K V L : Type 0} (tells : L → K → V → RemovalCause → L → Type 0) (l : Option L) → Heard {K = K} {V = V} tells l [] l
-nothing_heard tells None = refl
-nothing_heard tells (Some l) = refl
 
 module _ {K V X P W : Type 0} (s : State K V X P W) (bare : IsBare s.records s.access s.count s.weight) where
   empty_within : (capacity : Option ℕ) → IsWithin capacity []

@@ -31,4 +31,5 @@ pub mod Laws
 pub mod Drives
 pub mod Texts
 pub mod KeyTests
+pub mod Counters
 pub mod RecordParts

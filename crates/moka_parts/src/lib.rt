@@ -15,3 +15,4 @@ pub mod notification;
 pub mod policy;
 pub mod record_ref;
 pub mod records;
+pub mod stats;

@@ -6,10 +6,10 @@ use Rattle.moka_parts.specs.declared.policy.Instant.{Instant}
 use Rattle.moka_parts.specs.Runs.{readings_of}
 use Rattle.moka_parts.specs.State.{Meaning}
 use Rattle.moka_parts.specs.Surroundings.{Leads}
-use Rattle.moka_cache.specs.Synchronous.{Synchronous, Made}
-use Rattle.moka_cache.specs.Laws.{anytime}
-use Rattle.moka_cache.proofs.Anytime.{made_anytime}
-use Rattle.moka_cache.proofs.Made.{made_nothing, made_then}
+use Rattle.moka_calls.specs.Synchronous.{Synchronous, Made}
+use Rattle.moka_calls.specs.Laws.{anytime}
+use Rattle.moka_calls.proofs.Anytime.{made_anytime}
+use Rattle.moka_calls.proofs.Made.{made_nothing, made_then}
 use Rattle.moka_segments.specs.Laws.{EachMovesAlone, EachRuns, Move, MovesAlone, calls_in, replies_in}
 use Rattle.moka_segments.specs.Segmented.{IsAt, StepsAt}
 

@@ -3,7 +3,7 @@ use Rattle.std.proofs.Common.{◌≡◌, refl, ℕ, ◌<◌, ◌==◌, Bool, tru
 use Rattle.std.proofs.lemmas.Bool.{eqb-true, eqb-false}
 use Rattle.std.proofs.lemmas.List.{get_or-set_other, length-set}
 use Rattle.moka_parts.specs.State.{Meaning}
-use Rattle.moka_cache.specs.Synchronous.{Synchronous}
+use Rattle.moka_calls.specs.Synchronous.{Synchronous}
 use Rattle.moka_segments.specs.Keys.{Belongs, EachKey, KeysBelong}
 use Rattle.moka_segments.specs.Laws.{InsertWhereTheyBelong, KeysStay, OneSegmentEach}
 use Rattle.moka_segments.specs.Routing.{Routing, segment_of}

@@ -4,7 +4,7 @@ use Rattle.std.proofs.lemmas.List.{take_at}
 use Rattle.std.specs.List.{AllZip, IsFirstAndRest}
 use Rattle.moka_parts.specs.declared.policy.Instant.{Instant}
 use Rattle.moka_parts.specs.State.{Meaning}
-use Rattle.moka_cache.specs.Synchronous.{Synchronous}
+use Rattle.moka_calls.specs.Synchronous.{Synchronous}
 use Rattle.moka_segments.specs.Whole.{Ran, AllRan}
 
 -- no element made a step

@@ -4,9 +4,9 @@ use Rattle.moka_parts.specs.declared.calls.Call.{Call}
 use Rattle.moka_parts.specs.declared.calls.Reply.{Reply}
 use Rattle.moka_parts.specs.Runs.{Engine}
 use Rattle.moka_parts.specs.State.{Meaning}
-use Rattle.moka_cache.specs.Synchronous.{Made, hears_clones}
-use Rattle.moka_cache.proofs.Anytime.{made_by, tells_any}
-use Rattle.moka_cache.proofs.Made.{made_more}
+use Rattle.moka_calls.specs.Synchronous.{Made, hears_clones}
+use Rattle.moka_calls.proofs.Anytime.{made_by, tells_any}
+use Rattle.moka_calls.proofs.Made.{made_more}
 use Rattle.moka_segments.specs.Moves.{for_all_calls}
 
 module _ {K V S X L P W C : Type 0} (m : Meaning K V X L P W C (Unit {0})) (is_key_clone : K → K → Type 0) (is_clone : V → V → Type 0) (calls : List (Call K V P)) (replies : List (Reply K V P)) (old new : Engine K V S X L P W) (clock clock_after : C) where

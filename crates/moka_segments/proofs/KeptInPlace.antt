@@ -11,8 +11,8 @@ use Rattle.moka_parts.specs.declared.error.InsertRefused.{InsertRefused}
 use Rattle.moka_parts.specs.declared.error.OutOfMemory.{OutOfMemory}
 use Rattle.moka_parts.specs.Copies.{IsCopiedAnswer}
 use Rattle.moka_parts.specs.State.{Meaning}
-use Rattle.moka_cache.specs.Laws.{anytime}
-use Rattle.moka_cache.specs.Synchronous.{Synchronous, Just, Posts, InsertsEntry, GetsValue, RemovesEntry, InsertsMade, GetsOrInserts, GetsOrInsertsIfMade, GetsOrInsertsIfNoError, HandsOutMade, HandsOutIfMade, HandsOutIfNoError, own_run, removed, invalidated}
+use Rattle.moka_calls.specs.Laws.{anytime}
+use Rattle.moka_calls.specs.Synchronous.{Synchronous, Just, Posts, InsertsEntry, GetsValue, RemovesEntry, InsertsMade, GetsOrInserts, GetsOrInsertsIfMade, GetsOrInsertsIfNoError, HandsOutMade, HandsOutIfMade, HandsOutIfNoError, own_run, removed, invalidated}
 use Rattle.moka_segments.specs.Keys.{Belongs, InsertsOnly, KeepsKeys}
 use Rattle.moka_segments.specs.Laws.{CallsByKeyKeepKeys, CallsOfAllKeepKeys, GetWithKeepsKeys, GetWithIfMadeKeepsKeys, GetWithIfNoErrorKeepsKeys, InsertWhereTheyBelong, KeepsKeysBy, Move, RegisteringKeepsKeys}
 use Rattle.moka_segments.specs.Moves.{AreOneEach, IsMoveBy, IsMoveOfEach, MayRegister, for_all_calls}

@@ -18,10 +18,10 @@ use Rattle.moka_parts.specs.Runs.{Engine, Befalls, Step, PromisedRun}
 use Rattle.moka_parts.specs.State.{Meaning, Events}
 use Rattle.moka_parts.proofs.OrderedDrive.{listed_call_promised}
 use Rattle.moka_parts.proofs.RunsGoOn.{MakesCalls_push}
-use Rattle.moka_cache.specs.Synchronous.{Synchronous, Made, Makes, Just, InsertsEntry, GetsValue, RemovesEntry, GetsOrInserts, GetsOrInsertsIfMade, GetsOrInsertsIfNoError, HandsOutMade, HandsOutIfMade, HandsOutIfNoError, hears_clones, own_run, removed, invalidated}
-use Rattle.moka_cache.proofs.Anytime.{tells_any}
-use Rattle.moka_engine.proofs.Quiet.{nothing_heard}
-use Rattle.moka_cache.proofs.Made.{made_nothing, made_one, befalls_more}
+use Rattle.moka_calls.specs.Synchronous.{Synchronous, Made, Makes, Just, InsertsEntry, GetsValue, RemovesEntry, GetsOrInserts, GetsOrInsertsIfMade, GetsOrInsertsIfNoError, HandsOutMade, HandsOutIfMade, HandsOutIfNoError, hears_clones, own_run, removed, invalidated}
+use Rattle.moka_calls.proofs.Anytime.{tells_any}
+use Rattle.moka_parts.proofs.Quiet.{nothing_heard}
+use Rattle.moka_calls.proofs.Made.{made_nothing, made_one, befalls_more}
 use Rattle.moka_segments.specs.Laws.{Move, MoveAfterMove}
 use Rattle.moka_segments.specs.Moves.{for_all_calls, IsOneMove, AreOneEach, MayRegister, MovesBy, MovesGoOn, IsMoveBy, CallsByKeyAreMoves, GetWithIsMove, GetWithIfMadeIsMove, GetWithIfNoErrorIsMove, CallsOfAllAreMoves, RegisteringIsMoves}
 use Rattle.moka_segments.specs.Registering.{AllRegister, Registers, HasNoRoom}

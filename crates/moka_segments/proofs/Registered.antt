@@ -5,7 +5,7 @@ use Rattle.uuid.specs.declared.Uuid.{Uuid}
 use Rattle.moka_parts.specs.declared.error.PredicateRefused.{PredicateRefused}
 use Rattle.moka_parts.specs.declared.notification.RemovalCause.{RemovalCause}
 use Rattle.moka_parts.specs.declared.policy.Instant.{Instant}
-use Rattle.moka_cache.specs.Synchronous.{Synchronous}
+use Rattle.moka_calls.specs.Synchronous.{Synchronous}
 use Rattle.moka_segments.specs.Registering.{AllRegister, Registers, HasNoRoom}
 use Rattle.moka_segments.specs.Routing.{Routing}
 use Rattle.moka_segments.specs.Segmented.{Segmented}

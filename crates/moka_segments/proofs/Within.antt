@@ -5,7 +5,7 @@ use Rattle.moka_parts.specs.declared.policy.Instant.{Instant}
 use Rattle.moka_parts.specs.Exact.{IsWithin}
 use Rattle.moka_parts.specs.State.{Meaning}
 use Rattle.moka_parts.proofs.Counting.{exact_weight}
-use Rattle.moka_cache.specs.Synchronous.{Synchronous}
+use Rattle.moka_calls.specs.Synchronous.{Synchronous}
 use Rattle.moka_segments.specs.Whole.{Ran, AllRan, both, whole_capacity, IsWithinWhole}
 
 -- two capacities whose sum is set are set

@@ -11,10 +11,10 @@ use Rattle.moka_parts.specs.declared.notification.RemovalCause.{RemovalCause}
 use Rattle.moka_parts.specs.declared.policy.Instant.{Instant}
 use Rattle.moka_parts.specs.State.{Meaning}
 use Rattle.moka_parts.specs.Surroundings.{Leads}
-use Rattle.moka_cache.specs.declared.error.GetWithRefused.{GetWithRefused}
-use Rattle.moka_cache.specs.declared.error.NotTold.{NotTold}
-use Rattle.moka_cache.specs.Laws.{anytime}
-use Rattle.moka_cache.specs.Synchronous.{Synchronous, Made, removed, invalidated}
+use Rattle.moka_calls.specs.declared.error.GetWithRefused.{GetWithRefused}
+use Rattle.moka_calls.specs.declared.error.NotTold.{NotTold}
+use Rattle.moka_calls.specs.Laws.{anytime}
+use Rattle.moka_calls.specs.Synchronous.{Synchronous, Made, removed, invalidated}
 use Rattle.moka_segments.specs.Keys.{AreInOneSegment, Belongs, InsertsOnly, KeepsKeys, KeysBelong}
 use Rattle.moka_segments.specs.Registering.{AllRegister}
 use Rattle.moka_segments.specs.Routing.{Routing, segment_of}

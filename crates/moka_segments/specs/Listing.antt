@@ -1,7 +1,7 @@
 -- What all segments list.
 use Rattle.std.specs.Prelude.{◌≡◌, ℕ, Bool, List, [], ◌∷◌, ◌++◌}
 use Rattle.moka_parts.specs.Copies.{ClonesAreEqual}
-use Rattle.moka_cache.specs.Synchronous.{Synchronous}
+use Rattle.moka_calls.specs.Synchronous.{Synchronous}
 use Rattle.moka_cache.specs.Visible.{ListsVisible, LooksUpClones}
 
 -- a list of each element, one after the other

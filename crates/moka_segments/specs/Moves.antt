@@ -12,10 +12,10 @@ use Rattle.moka_parts.specs.declared.error.PredicateRefused.{PredicateRefused}
 use Rattle.moka_parts.specs.declared.policy.Instant.{Instant}
 use Rattle.moka_parts.specs.Copies.{IsCopiedAnswer}
 use Rattle.moka_parts.specs.State.{Meaning}
-use Rattle.moka_cache.specs.declared.error.GetWithRefused.{GetWithRefused}
-use Rattle.moka_cache.specs.declared.error.NotTold.{NotTold}
-use Rattle.moka_cache.specs.Laws.{anytime}
-use Rattle.moka_cache.specs.Synchronous.{Synchronous, Made, Just, InsertsEntry, GetsValue, RemovesEntry, GetsOrInserts, GetsOrInsertsIfMade, GetsOrInsertsIfNoError, HandsOutMade, HandsOutIfMade, HandsOutIfNoError, hears_clones, own_run, removed, invalidated}
+use Rattle.moka_calls.specs.declared.error.GetWithRefused.{GetWithRefused}
+use Rattle.moka_calls.specs.declared.error.NotTold.{NotTold}
+use Rattle.moka_calls.specs.Laws.{anytime}
+use Rattle.moka_calls.specs.Synchronous.{Synchronous, Made, Just, InsertsEntry, GetsValue, RemovesEntry, GetsOrInserts, GetsOrInsertsIfMade, GetsOrInsertsIfNoError, HandsOutMade, HandsOutIfMade, HandsOutIfNoError, hears_clones, own_run, removed, invalidated}
 use Rattle.moka_segments.specs.Laws.{Move, MoveAfterMove, calls_in, replies_in}
 use Rattle.moka_segments.specs.Registering.{AllRegister}
 use Rattle.moka_segments.specs.Routing.{segment_of}

@@ -10,7 +10,7 @@ use Rattle.moka_parts.specs.Calls.{InvalidateStep, only_ids}
 use Rattle.moka_parts.specs.Runs.{Befalls}
 use Rattle.moka_parts.specs.State.{Events}
 use Rattle.moka_parts.specs.Surroundings.{Leads}
-use Rattle.moka_cache.specs.Synchronous.{Synchronous}
+use Rattle.moka_calls.specs.Synchronous.{Synchronous}
 use Rattle.moka_segments.specs.declared.predicates.RegisterRefused.{RegisterRefused}
 
 module _ {P : Type 0} where

@@ -1,6 +1,6 @@
 -- Synchronous caches side by side, and what a call makes of one of them.
 use Rattle.std.specs.Prelude.{◌≡◌, ℕ, ◌<◌, List, length, slice_index_or, slice_set}
-use Rattle.moka_cache.specs.Synchronous.{Synchronous}
+use Rattle.moka_calls.specs.Synchronous.{Synchronous}
 use Rattle.moka_segments.specs.Routing.{Routing}
 
 -- the segments, and which keys are whose

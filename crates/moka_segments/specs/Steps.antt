@@ -9,11 +9,11 @@ use Rattle.moka_parts.specs.Calls.{ContainsStep}
 use Rattle.moka_parts.specs.Copies.{IsCopiedAnswer}
 use Rattle.moka_parts.specs.Records.{record_of_key}
 use Rattle.moka_parts.specs.State.{Meaning, is_disabled}
-use Rattle.moka_cache.specs.declared.error.GetWithRefused.{GetWithRefused}
-use Rattle.moka_cache.specs.Counters.{after_look_up}
+use Rattle.moka_calls.specs.declared.error.GetWithRefused.{GetWithRefused}
+use Rattle.moka_parts.specs.Counters.{after_look_up}
 use Rattle.moka_cache.specs.Unsent.{IsThere, ShowsWrites}
-use Rattle.moka_cache.specs.Synchronous.{Synchronous, Makes, hears_clones, InsertsEntry, GetsValue, RemovesEntry}
-use Rattle.moka_cache.specs.Synchronous as own
+use Rattle.moka_calls.specs.Synchronous.{Synchronous, Makes, hears_clones, InsertsEntry, GetsValue, RemovesEntry}
+use Rattle.moka_calls.specs.Synchronous as own
 
 module _ {K V S X L P W C : Type 0} (m : Meaning K V X L P W C (Unit {0})) (hash_of : S → K → ℕ) (key : K)
     (now : Instant) (clock clock_after : C) where

@@ -8,8 +8,8 @@ use Rattle.moka_parts.specs.Exact.{IsExact, IsWithin}
 use Rattle.moka_parts.specs.Runs.{Befalls}
 use Rattle.moka_parts.specs.State.{Meaning}
 use Rattle.moka_parts.specs.Time.{greatest, plus}
-use Rattle.moka_cache.specs.declared.stats.Stats.{Stats}
-use Rattle.moka_cache.specs.Synchronous.{Synchronous, Makes, Just, own_run}
+use Rattle.moka_parts.specs.declared.stats.Stats.{Stats}
+use Rattle.moka_calls.specs.Synchronous.{Synchronous, Makes, Just, own_run}
 
 -- a segment hides what was written or read before the moment
 pub record Hides {K V S X L P W : Type 0} (tells : L → K → V → RemovalCause → L → Type 0) (now : Instant)

@@ -1,6 +1,6 @@
 //! Laws of a cache in segments. The contract of each function is a law, and its body does nothing.
 ghost use Rattle.moka_parts.specs.Hashing.{key_hash};
-ghost use Rattle.moka_cache.specs.Synchronous.{meaning_of};
+ghost use Rattle.moka_calls.specs.Synchronous.{meaning_of};
 ghost use Rattle.moka_segments.specs.Built.{SharesSum};
 ghost use Rattle.moka_segments.specs.Keys.{HoldNone, KeysBelong};
 ghost use Rattle.moka_segments.specs.Laws.{CallsByKeyKeepKeys, CallsOfAllKeepKeys, EachMovesAlone, EachRuns, GetWithIfMadeKeepsKeys, GetWithIfNoErrorKeepsKeys, GetWithKeepsKeys, KeysStay, OneSegmentEach, RegisteringKeepsKeys};

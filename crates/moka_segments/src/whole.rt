@@ -2,7 +2,7 @@
 ghost use Rattle.std.specs.Prelude.{◌≡◌, option_copied};
 ghost use Rattle.std.specs.List.{AllZip};
 ghost use Rattle.moka_parts.specs.State.{limits_of};
-ghost use Rattle.moka_cache.specs.Synchronous.{meaning_of};
+ghost use Rattle.moka_calls.specs.Synchronous.{meaning_of};
 ghost use Rattle.moka_segments.specs.Segmented.{Holds};
 ghost use Rattle.moka_segments.specs.Whole.{AllRan, Hides, IsWithinWhole, both, both_stats, saturated, total, total_stats, whole_capacity};
 

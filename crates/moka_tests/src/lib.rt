@@ -4,8 +4,6 @@
 #[cfg(test)]
 mod cases;
 #[cfg(test)]
-mod engine;
-#[cfg(test)]
 mod index;
 #[cfg(test)]
 mod maintenance;

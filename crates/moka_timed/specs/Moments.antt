@@ -1,6 +1,6 @@
 -- The moment of a call of a cache that owns its clock: the clock is read first.
 use Rattle.moka_parts.specs.declared.policy.Instant.{Instant}
-use Rattle.moka_cache.specs.Synchronous.{Synchronous}
+use Rattle.moka_calls.specs.Synchronous.{Synchronous}
 use Rattle.moka_timed.specs.declared.cache.TimedCache.{TimedCache}
 
 module _ {K V C X L P W S H : Type 0} (reads : C → Instant → C → Type 0) where

@@ -13,12 +13,12 @@ ghost use Rattle.moka_parts.specs.declared.error.OutOfMemory.{OutOfMemory};
 ghost use Rattle.moka_parts.specs.declared.policy.Instant.{Instant};
 ghost use Rattle.moka_parts.specs.declared.records.Record.{Record};
 ghost use Rattle.moka_engine.specs.Config.{new_engine};
-ghost use Rattle.moka_cache.specs.Counters.{after_look_up};
+ghost use Rattle.moka_parts.specs.Counters.{after_look_up};
 ghost use Rattle.moka_parts.specs.Hashing.{key_hash};
 ghost use Rattle.moka_cache.specs.Saved.{HasOnlyMembers};
 ghost use Rattle.moka_cache.specs.Unsent.{IsThere, ShowsWrites};
 ghost use Rattle.moka_timed.specs.Moments.{AtItsMoment, AtItsOnlyMoment, AtAnyMoment};
-ghost use Rattle.moka_cache.specs.Synchronous.{fresh, Makes, meaning_of, hears_clones, Just, own_run, InsertsEntry, GetsValue, RemovesEntry, removed, invalidated, taken_out, GetsWith, GetsWithIfMade, GetsWithIfNoError};
+ghost use Rattle.moka_calls.specs.Synchronous.{fresh, Makes, meaning_of, hears_clones, Just, own_run, InsertsEntry, GetsValue, RemovesEntry, removed, invalidated, taken_out, GetsWith, GetsWithIfMade, GetsWithIfNoError};
 
 use moka_cache::cache::Cache;
 use moka_cache::error::{GetWithRefused, NotTold};

@@ -2,12 +2,12 @@
 ghost use Rattle.std.specs.Prelude.{◌≡◌, false, Option, Result, option_copied};
 ghost use Rattle.moka_parts.specs.Calls.{ContainsStep};
 ghost use Rattle.moka_parts.specs.declared.error.InsertRefused.{InsertRefused};
-ghost use Rattle.moka_cache.specs.Computing.{AndUpserts, AndComputes};
-ghost use Rattle.moka_cache.specs.Entries.{OrInserts, OrInsertsMade, OrInsertsIfMade, OrInsertsIfNoError};
-ghost use Rattle.moka_cache.specs.Given.{Sees};
+ghost use Rattle.moka_calls.specs.Computing.{AndUpserts, AndComputes};
+ghost use Rattle.moka_calls.specs.Entries.{OrInserts, OrInsertsMade, OrInsertsIfMade, OrInsertsIfNoError};
+ghost use Rattle.moka_calls.specs.Given.{Sees};
 ghost use Rattle.moka_parts.specs.Hashing.{key_hash};
 ghost use Rattle.moka_timed.specs.Moments.{AtItsMoment, AtAnyMoment};
-ghost use Rattle.moka_cache.specs.Synchronous.{meaning_of, hears_clones};
+ghost use Rattle.moka_calls.specs.Synchronous.{meaning_of, hears_clones};
 
 use crate::cache::TimedCache;
 use moka_cache::compute::{CompResult, ComputeRefused, Op};

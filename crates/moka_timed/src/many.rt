@@ -1,10 +1,10 @@
 //! Calls for many keys at once, each at one moment of the clock.
 ghost use Rattle.std.specs.Prelude.{◌≡◌};
 ghost use Rattle.moka_parts.specs.Hashing.{key_hash};
-ghost use Rattle.moka_cache.specs.Counters.{after_look_ups};
-ghost use Rattle.moka_cache.specs.Many.{GetsMany, InsertsMany, InvalidatesMany, found_by};
+ghost use Rattle.moka_parts.specs.Counters.{after_look_ups};
+ghost use Rattle.moka_calls.specs.Many.{GetsMany, InsertsMany, InvalidatesMany, found_by};
 ghost use Rattle.moka_timed.specs.Moments.{AtItsMoment};
-ghost use Rattle.moka_cache.specs.Synchronous.{Makes, hears_clones, meaning_of};
+ghost use Rattle.moka_calls.specs.Synchronous.{Makes, hears_clones, meaning_of};
 
 use crate::cache::TimedCache;
 use moka_cache::many::{GetManyRefused, InsertManyRefused, InvalidateManyRefused};

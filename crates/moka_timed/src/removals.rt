@@ -1,6 +1,6 @@
 //! Removals counted by their causes.
 ghost use Rattle.std.specs.Prelude.{◌≡◌};
-ghost use Rattle.moka_cache.specs.Removed.{removals_of};
+ghost use Rattle.moka_calls.specs.Removed.{removals_of};
 
 use crate::cache::TimedCache;
 use moka_cache::removals::{CountingListener, Removals};

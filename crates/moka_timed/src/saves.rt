@@ -8,7 +8,7 @@ ghost use Rattle.moka_engine.specs.declared.base_cache.restores.Restored.{Restor
 ghost use Rattle.moka_parts.specs.Hashing.{key_hash};
 ghost use Rattle.moka_cache.specs.Saved.{AddsOnly, HasOnlyMembers, AreSaved, AreThere, IsRestored, PutsBack, PutsManyBack, TakesOnlyExpired};
 ghost use Rattle.moka_timed.specs.Moments.{AtItsMoment};
-ghost use Rattle.moka_cache.specs.Synchronous.{Just, Makes, meaning_of, own_run};
+ghost use Rattle.moka_calls.specs.Synchronous.{Just, Makes, meaning_of, own_run};
 ghost use Rattle.moka_cache.specs.Unsent.{HidesNoMore};
 
 use crate::cache::TimedCache;

@@ -7,9 +7,9 @@ use Rattle.std.specs.declared.vec.Vec.{Vec}
 use Rattle.moka_engine.specs.parts.Instant.{Instant}
 use Rattle.moka_engine.specs.Runs.{Engine}
 use Rattle.moka_engine.specs.State.{Meaning}
-use Rattle.moka_cache.specs.declared.many.GetManyRefused.{GetManyRefused}
-use Rattle.moka_cache.specs.declared.many.InsertManyRefused.{InsertManyRefused}
-use Rattle.moka_cache.specs.declared.many.InvalidateManyRefused.{InvalidateManyRefused}
+use Rattle.moka_cache.specs.parts.GetManyRefused.{GetManyRefused}
+use Rattle.moka_cache.specs.parts.InsertManyRefused.{InsertManyRefused}
+use Rattle.moka_cache.specs.parts.InvalidateManyRefused.{InvalidateManyRefused}
 use Rattle.moka_cache.specs.Many.{GetsMany, InsertsMany, InvalidatesMany}
 use Rattle.moka_cache.specs.Synchronous.{Makes}
 

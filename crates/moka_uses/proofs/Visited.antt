@@ -13,16 +13,16 @@ use Rattle.moka_engine.specs.Runs.{Engine}
 use Rattle.moka_engine.specs.State.{State, Meaning}
 use Rattle.moka_engine.specs.Visibility.{IsShown, SomeCovers}
 use Rattle.moka_engine.proofs.Copies.{answer-same}
-use Rattle.moka_cache.specs.declared.compute.CompResult.{CompResult}
-use Rattle.moka_cache.specs.declared.compute.CompResult.TheVariants.{Removed, StillNone, Unchanged as Kept}
-use Rattle.moka_cache.specs.declared.compute.ComputeRefused.{ComputeRefused}
-use Rattle.moka_cache.specs.declared.compute.ComputeRefused.TheVariants.{NotTold}
-use Rattle.moka_cache.specs.declared.compute.ComputeRefused.TheVariants as compute_refused
-use Rattle.moka_cache.specs.declared.compute.Op.{Op}
-use Rattle.moka_cache.specs.declared.compute.Op.TheVariants.{Nop, Put, Remove}
-use Rattle.moka_cache.specs.declared.entry.CacheEntry.{CacheEntry}
-use Rattle.moka_cache.specs.declared.error.GetWithRefused.{GetWithRefused}
-use Rattle.moka_cache.specs.declared.error.GetWithRefused.TheVariants.{Lookup, Insert}
+use Rattle.moka_cache.specs.parts.CompResult.{CompResult}
+use Rattle.moka_cache.specs.parts.CompResult.TheVariants.{Removed, StillNone, Unchanged as Kept}
+use Rattle.moka_cache.specs.parts.ComputeRefused.{ComputeRefused}
+use Rattle.moka_cache.specs.parts.ComputeRefused.TheVariants.{NotTold}
+use Rattle.moka_cache.specs.parts.ComputeRefused.TheVariants as compute_refused
+use Rattle.moka_cache.specs.parts.Op.{Op}
+use Rattle.moka_cache.specs.parts.Op.TheVariants.{Nop, Put, Remove}
+use Rattle.moka_cache.specs.parts.CacheEntry.{CacheEntry}
+use Rattle.moka_cache.specs.parts.GetWithRefused.{GetWithRefused}
+use Rattle.moka_cache.specs.parts.GetWithRefused.TheVariants.{Lookup, Insert}
 use Rattle.moka_cache.specs.Computing.{Computed, InTurn, Left, LeftNone, Puts, Takes, Computes, HandsOutComputed, HandsOutLeft, HandsOutTaken, HandsOutUpserted, IsComputedBy, IsUpsertOf, Upserts}
 use Rattle.moka_cache.specs.Counters.{one_more}
 use Rattle.moka_cache.specs.Given.{ComesBack, Sees}

@@ -12,8 +12,8 @@ use Rattle.moka_engine.specs.parts.Uuid.{Uuid}
 use Rattle.moka_engine.specs.Copies.{IsCopiedAnswer}
 use Rattle.moka_engine.specs.Runs.{Engine}
 use Rattle.moka_engine.specs.State.{Meaning}
-use Rattle.moka_cache.specs.declared.error.GetWithRefused.{GetWithRefused}
-use Rattle.moka_cache.specs.declared.error.GetWithRefused.TheVariants.{Lookup, Insert}
+use Rattle.moka_cache.specs.parts.GetWithRefused.{GetWithRefused}
+use Rattle.moka_cache.specs.parts.GetWithRefused.TheVariants.{Lookup, Insert}
 use Rattle.moka_cache.specs.Synchronous.{Synchronous, GetsValue, GetsWith, Makes}
 use Rattle.moka_uses.specs.Made.{Inserts, IsOneCall, Registers, simple_meaning}
 

@@ -2,8 +2,8 @@
 use Rattle.std.specs.Prelude.{◌≡◌, ℕ, Bool, Result}
 use Rattle.moka_engine.specs.parts.Instant.{Instant}
 use Rattle.moka_engine.specs.State.{Meaning}
-use Rattle.moka_cache.specs.declared.error.GetWithRefused.{GetWithRefused}
-use Rattle.moka_cache.specs.declared.removals.CountingListener.{CountingListener}
+use Rattle.moka_cache.specs.parts.GetWithRefused.{GetWithRefused}
+use Rattle.moka_cache.specs.parts.CountingListener.{CountingListener}
 use Rattle.moka_cache.specs.Removed.{counting}
 use Rattle.moka_cache.specs.Synchronous.{Synchronous, GetsWith}
 use Rattle.moka_uses.specs.Made.{plain_meaning}

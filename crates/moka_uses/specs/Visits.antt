@@ -7,12 +7,12 @@ use Rattle.moka_engine.specs.Records.{record_of_key}
 use Rattle.moka_engine.specs.Runs.{Engine}
 use Rattle.moka_engine.specs.State.{State, Meaning}
 use Rattle.moka_engine.specs.Visibility.{has_lapsed}
-use Rattle.moka_cache.specs.declared.compute.ComputeRefused.{ComputeRefused}
-use Rattle.moka_cache.specs.declared.compute.ComputeRefused.TheVariants as compute_refused
-use Rattle.moka_cache.specs.declared.compute.Op.{Op}
-use Rattle.moka_cache.specs.declared.compute.Op.TheVariants.{Nop, Remove}
-use Rattle.moka_cache.specs.declared.error.GetWithRefused.{GetWithRefused}
-use Rattle.moka_cache.specs.declared.error.GetWithRefused.TheVariants as get_with_refused
+use Rattle.moka_cache.specs.parts.ComputeRefused.{ComputeRefused}
+use Rattle.moka_cache.specs.parts.ComputeRefused.TheVariants as compute_refused
+use Rattle.moka_cache.specs.parts.Op.{Op}
+use Rattle.moka_cache.specs.parts.Op.TheVariants.{Nop, Remove}
+use Rattle.moka_cache.specs.parts.GetWithRefused.{GetWithRefused}
+use Rattle.moka_cache.specs.parts.GetWithRefused.TheVariants as get_with_refused
 use Rattle.moka_cache.specs.Computing.{InTurn}
 use Rattle.moka_cache.specs.Counters.{one_more}
 use Rattle.moka_cache.specs.Synchronous.{Makes, GetsValue, InsertsMade, RemovesEntry}

@@ -5,6 +5,7 @@ pub mod moka_structures;
 pub mod moka_sketch;
 pub mod moka_wheel;
 pub mod moka_parts;
+pub mod moka_calls;
 pub mod moka_store;
 pub mod moka_maintenance;
 pub mod moka_inner;

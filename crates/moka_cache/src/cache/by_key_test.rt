@@ -1,17 +1,17 @@
 //! Look-ups and removals by a test of the key in place of a key.
-ghost use Rattle.std.specs.Prelude.{◌≡◌, true, Option, Some, None, Result, IfOk, IfSome, OnErr, is_some};
+ghost use Rattle.std.specs.Prelude.{◌≡◌, true, Option, Some, None, Result, IfOk, IfSome, OnErr, is_some, option_map};
 ghost use Rattle.moka_parts.specs.Calls.{ContainsStep};
 ghost use Rattle.moka_parts.specs.Copies.{IsCopiedAnswer};
 ghost use Rattle.moka_parts.specs.KeyTests.{ContainsByStep, record_by};
 ghost use Rattle.moka_parts.specs.Records.{record_of_key};
 ghost use Rattle.moka_parts.specs.declared.error.OutOfMemory.{OutOfMemory};
 ghost use Rattle.moka_parts.specs.declared.records.Record.{Record};
-ghost use Rattle.moka_cache.specs.Counters.{after_look_up};
+ghost use Rattle.moka_parts.specs.Counters.{after_look_up};
 ghost use Rattle.moka_parts.specs.Hashing.{key_hash};
-ghost use Rattle.moka_cache.specs.Synchronous.{GetsValue, Makes, RemovesEntry, hears_clones, invalidated, meaning_of, removed};
+ghost use Rattle.moka_calls.specs.Synchronous.{GetsValue, Makes, RemovesEntry, hears_clones, invalidated, meaning_of, removed};
 
 use super::{Cache, invalidated, removed, value_of};
-use crate::error::NotTold;
+use moka_calls::error::NotTold;
 use moka_parts::closures::{PredicateFn, Weigher};
 use moka_parts::error::OutOfMemory;
 use moka_parts::housekeeper::Clock;
@@ -142,7 +142,7 @@ impl<
     }
 
     // Takes the key that passes out: its value, and whether the listener was notified.
-    fn take_by<T: KeyTest<K>, C: Clock>(
+    pub(super) fn take_by<T: KeyTest<K>, C: Clock>(
         &mut self,
         test: &T,
         hash: u64,
@@ -161,6 +161,8 @@ impl<
             (RemovesEntry key hash now result) self.old.engine clock.old self.new.engine clock.new }
         ensures gone { (key : K) → T.passes test.now key ≡ true
             → record_of_key K.eq self.new.engine.state.records key ≡ None }
+        ensures value { (key : K) → T.passes test.now key ≡ true → option_map (λ t. t.0) result
+            ≡ option_map (λ r. r.value) (record_of_key K.eq self.old.engine.state.records key) }
         ensures counted { self.new.stats ≡ self.old.stats }
     {
         self.engine.invariant_holds();

@@ -9,7 +9,7 @@ ghost use Rattle.moka_engine.specs.Snapshots.{scene_of};
 ghost use Rattle.moka_engine.specs.declared.base_cache.restores.Restored.{Restored};
 ghost use Rattle.moka_parts.specs.Hashing.{key_hash};
 ghost use Rattle.moka_cache.specs.Saved.{AddsOnly, HasOnlyMembers, AreSaved, AreThere, IsRestored, IsSaved, PutsBack, PutsManyBack, TakesOnlyExpired};
-ghost use Rattle.moka_cache.specs.Synchronous.{Just, Makes, meaning_of, own_run};
+ghost use Rattle.moka_calls.specs.Synchronous.{Just, Makes, meaning_of, own_run};
 ghost use Rattle.moka_cache.specs.Unsent.{HidesNoMore};
 
 use super::Cache;

@@ -2,8 +2,7 @@
 //! The synchronous cache: put, get and remove in one call each. moka: `sync::cache`.
 use crate::support::prelude::*;
 
-use crate::engine::moka_cache::error::{GetWithRefused, NotTold};
-use crate::engine::moka_cache::stats::Stats;
+use crate::engine::moka_calls::error::{GetWithRefused, NotTold};
 use crate::engine::moka_engine::base_cache::BaseCache;
 use crate::engine::moka_engine::config::{CacheConfig, DefaultHasher};
 use crate::engine::moka_parts::calls::{Entry, Ticket};
@@ -11,8 +10,10 @@ use crate::engine::moka_parts::closures::{NoPredicate, NoWeigher, PredicateFn, W
 use crate::engine::moka_parts::error::{CapacityError, InsertError, InsertRefused, OutOfMemory, PredicateRefused};
 use crate::engine::moka_parts::housekeeper::{Clock, EVICTION_BATCH_SIZE, MAX_LOG_SYNC_REPEATS};
 use crate::engine::moka_parts::invalidator::{IdSource, PredicateId};
+use crate::engine::moka_parts::key_test::SameKey;
 use crate::engine::moka_parts::notification::{Listener, NoListener};
 use crate::engine::moka_parts::policy::{Expiry, Instant, NoExpiry, Policy};
+use crate::engine::moka_parts::stats::Stats;
 use crate::support::alloc::Global;
 use std::convert::Infallible;
 use crate::support::hash::{BuildHasher, Hash};
@@ -249,13 +250,7 @@ impl<
         K: Clone,
         V: Clone,
     {
-        self.engine.invariant_holds();
-        let Some((entry, ticket)) = self.engine.remove_entry_with_own_hash(key, hash) else {
-            return None;
-        };
-        let told = self.engine.notify_invalidate(&entry, now);
-        Self::post(&mut self.engine, ticket, now, clock);
-        Some((entry.value, told))
+        self.take_by(&SameKey(key), hash, now, clock)
     }
 
     /// A clone of a key's value, if the key is there and visible at the moment `now`, and else the value that `init`

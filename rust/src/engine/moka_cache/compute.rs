@@ -3,75 +3,16 @@
 use crate::support::prelude::*;
 
 use crate::engine::moka_cache::cache::{Cache, Put};
-use crate::engine::moka_cache::entry::{CacheEntry, found};
-use crate::engine::moka_cache::error::{GetWithRefused, NotTold};
+use crate::engine::moka_cache::entry::found;
+pub use crate::engine::moka_calls::compute::{CompResult, ComputeRefused, Op};
+use crate::engine::moka_calls::entry::CacheEntry;
+use crate::engine::moka_calls::error::{GetWithRefused, NotTold};
 use crate::engine::moka_parts::closures::{PredicateFn, Weigher};
 use crate::engine::moka_parts::error::{InsertRefused, OutOfMemory};
 use crate::engine::moka_parts::housekeeper::Clock;
 use crate::engine::moka_parts::notification::Listener;
 use crate::engine::moka_parts::policy::{Expiry, Instant};
-use std::error::Error;
-use std::fmt;
 use crate::support::hash::{BuildHasher, Hash};
-
-/// What a closure of `compute_with` answers. moka: `ops::compute::Op`.
-#[derive(Debug)]
-pub enum Op<V> {
-    /// Leave the cache as it is.
-    Nop,
-    /// Put this value under the key.
-    Put(V),
-    /// Take the key out.
-    Remove,
-}
-
-/// What `compute_with` did. moka: `ops::compute::CompResult`.
-#[derive(Debug)]
-pub enum CompResult<K, V> {
-    /// The value was put, and the closure had seen none. A cache of capacity 0 answers this too, and drops it.
-    Inserted(CacheEntry<K, V>),
-    /// The value was put, and the closure had seen another.
-    ReplacedWith(CacheEntry<K, V>),
-    /// The key was taken out, with this value.
-    Removed(CacheEntry<K, V>),
-    /// No value was put, and none is there that could be taken out. The key comes back.
-    StillNone(K),
-    /// Nothing was done, and the closure had seen this value.
-    Unchanged(CacheEntry<K, V>),
-}
-
-/// Why `compute_with` did not do what was answered.
-#[derive(Debug)]
-pub enum ComputeRefused<K, V> {
-    /// Memory for a clone of the value that is there was refused. Nothing has changed, and the key comes back.
-    Lookup(K),
-    /// The value was not put, since memory for a clone of it or of the key, or for the insert, was refused, or tickets
-    /// are used up. The look-up stands, and key and value come back.
-    Insert(InsertRefused<K, V>),
-    /// The key was taken out, and the listener was not notified, since memory for a clone was refused. Key and value
-    /// come back.
-    NotTold(K, NotTold<V>),
-}
-
-impl<K, V> fmt::Display for ComputeRefused<K, V> {
-
-    fn fmt(&self, f: &mut fmt::Formatter<'_>) -> fmt::Result {
-        match self {
-            ComputeRefused::Lookup(_) => write!(f, "{OutOfMemory}"),
-            ComputeRefused::Insert(refused) => write!(f, "{refused}"),
-            ComputeRefused::NotTold(_, refused) => write!(f, "{refused}"),
-        }
-    }
-}
-
-impl<K: fmt::Debug, V: fmt::Debug> Error for ComputeRefused<K, V> {}
-
-impl<K, V> From<InsertRefused<K, V>> for ComputeRefused<K, V> {
-
-    fn from(refused: InsertRefused<K, V>) -> Self {
-        ComputeRefused::Insert(refused)
-    }
-}
 
 impl<
     K: Eq + Hash,

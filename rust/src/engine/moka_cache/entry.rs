@@ -5,27 +5,14 @@
 use crate::support::prelude::*;
 
 use crate::engine::moka_cache::cache::{Cache, Put, always_made, if_made};
-use crate::engine::moka_cache::error::GetWithRefused;
+pub use crate::engine::moka_calls::entry::CacheEntry;
+use crate::engine::moka_calls::error::GetWithRefused;
 use crate::engine::moka_parts::closures::{PredicateFn, Weigher};
 use crate::engine::moka_parts::error::{InsertError, InsertRefused};
 use crate::engine::moka_parts::housekeeper::Clock;
 use crate::engine::moka_parts::notification::Listener;
 use crate::engine::moka_parts::policy::{Expiry, Instant};
 use crate::support::hash::{BuildHasher, Hash};
-
-/// What an entry call answers. moka: `Entry`.
-#[derive(Debug)]
-pub struct CacheEntry<K, V> {
-    /// The caller's own key if the value was there, and a clone of it if the call put the value.
-    pub key: K,
-    /// A clone of the value.
-    pub value: V,
-    /// Whether the call put the value. It is true also of a cache of capacity 0, which drops the value instead.
-    pub is_fresh: bool,
-    /// Whether the look-up of a call that put the value saw another. A run of maintenance that the look-up started may
-    /// have removed that one before.
-    pub is_old_value_replaced: bool,
-}
 
 impl<
     K: Eq + Hash,

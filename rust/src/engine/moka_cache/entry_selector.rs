@@ -7,7 +7,7 @@ use crate::support::prelude::*;
 use crate::engine::moka_cache::cache::Cache;
 use crate::engine::moka_cache::compute::{CompResult, ComputeRefused, Op};
 use crate::engine::moka_cache::entry::CacheEntry;
-use crate::engine::moka_cache::error::GetWithRefused;
+use crate::engine::moka_calls::error::GetWithRefused;
 use crate::engine::moka_parts::closures::{PredicateFn, Weigher};
 use crate::engine::moka_parts::error::InsertRefused;
 use crate::engine::moka_parts::housekeeper::Clock;

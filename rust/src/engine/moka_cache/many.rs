@@ -4,71 +4,15 @@
 use crate::support::prelude::*;
 
 use crate::engine::moka_cache::cache::Cache;
-use crate::engine::moka_cache::error::NotTold;
+pub use crate::engine::moka_calls::many::{GetManyRefused, InsertManyRefused, InvalidateManyRefused};
 use crate::engine::moka_parts::closures::{PredicateFn, Weigher};
 use crate::engine::moka_parts::error::{InsertRefused, OutOfMemory};
 use crate::engine::moka_parts::housekeeper::Clock;
 use crate::engine::moka_parts::notification::Listener;
 use crate::engine::moka_parts::policy::{Expiry, Instant};
 use crate::support::alloc::Global;
-use std::error::Error;
-use std::fmt;
 use crate::support::hash::{BuildHasher, Hash};
 use std::vec::IntoIter;
-
-/// A look-up of many keys that stopped at one, since memory was refused.
-#[derive(Debug)]
-pub struct GetManyRefused<V> {
-    /// What the keys before it found, in order.
-    pub found: Vec<Option<V>>,
-}
-
-impl<V> fmt::Display for GetManyRefused<V> {
-
-    fn fmt(&self, f: &mut fmt::Formatter<'_>) -> fmt::Result {
-        write!(f, "{OutOfMemory}")
-    }
-}
-
-impl<V: fmt::Debug> Error for GetManyRefused<V> {}
-
-/// An insert of many items that stopped at one.
-#[derive(Debug)]
-pub struct InsertManyRefused<K, V> {
-    /// How many items were inserted.
-    pub done: usize,
-    /// The item that was refused, and why.
-    pub refused: InsertRefused<K, V>,
-    /// The items after it, in order.
-    pub rest: IntoIter<(K, V)>,
-}
-
-impl<K, V> fmt::Display for InsertManyRefused<K, V> {
-
-    fn fmt(&self, f: &mut fmt::Formatter<'_>) -> fmt::Result {
-        write!(f, "{}", self.refused)
-    }
-}
-
-impl<K: fmt::Debug, V: fmt::Debug> Error for InsertManyRefused<K, V> {}
-
-/// An invalidation of many keys that stopped at one, whose listener was not notified.
-#[derive(Debug)]
-pub struct InvalidateManyRefused<V> {
-    /// How many keys come before this one. They were taken out if they were there, and this one was as well.
-    pub done: usize,
-    /// The value that was taken out, and why its listener was not notified.
-    pub refused: NotTold<V>,
-}
-
-impl<V> fmt::Display for InvalidateManyRefused<V> {
-
-    fn fmt(&self, f: &mut fmt::Formatter<'_>) -> fmt::Result {
-        write!(f, "{}", self.refused)
-    }
-}
-
-impl<V: fmt::Debug> Error for InvalidateManyRefused<V> {}
 
 impl<
     K: Eq + Hash,

@@ -16,3 +16,4 @@ pub mod notification;
 pub mod policy;
 pub mod record_ref;
 pub mod records;
+pub mod stats;

@@ -5,8 +5,6 @@ use crate::support::prelude::*;
 #[cfg(test)]
 mod cases;
 #[cfg(test)]
-mod engine;
-#[cfg(test)]
 mod index;
 #[cfg(test)]
 mod maintenance;

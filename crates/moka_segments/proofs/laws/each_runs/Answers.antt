@@ -1,4 +1,4 @@
-use Rattle.moka_cache.specs.Synchronous.{meaning_of}
+use Rattle.moka_calls.specs.Synchronous.{meaning_of}
 use Rattle.moka_segments.proofs.Apart.{each_runs, each_moves_alone}
 use Rattle.moka_segments.proofs.laws.each_runs.Goals as goal
 

@@ -1,4 +1,4 @@
-use Rattle.moka_cache.specs.Synchronous.{meaning_of}
+use Rattle.moka_calls.specs.Synchronous.{meaning_of}
 use Rattle.moka_segments.specs.Moves.{for_all_calls}
 use Rattle.moka_segments.proofs.Apart.{each_runs, each_moves_alone}
 use Rattle.moka_segments.proofs.Moving.{moves_go_on}

@@ -1,4 +1,4 @@
-use Rattle.moka_cache.specs.Synchronous.{meaning_of}
+use Rattle.moka_calls.specs.Synchronous.{meaning_of}
 use Rattle.moka_segments.proofs.Moving.{registering}
 use Rattle.moka_segments.proofs.laws.registering_is_moves.Goals as goal
 

@@ -1,5 +1,5 @@
 use Rattle.moka_parts.specs.Hashing.{key_hash}
-use Rattle.moka_cache.specs.Synchronous.{meaning_of}
+use Rattle.moka_calls.specs.Synchronous.{meaning_of}
 use Rattle.moka_segments.proofs.KeptInPlace.{registering}
 use Rattle.moka_segments.proofs.laws.registering_keeps_keys.Goals as goal
 

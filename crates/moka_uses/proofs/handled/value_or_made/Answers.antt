@@ -4,8 +4,8 @@ use Rattle.moka_engine.specs.parts.Instant.{Instant}
 use Rattle.moka_engine.specs.parts.OutOfMemory.{OutOfMemory}
 use Rattle.moka_engine.specs.Copies.{IsCopiedAnswer}
 use Rattle.moka_engine.specs.State.{Meaning}
-use Rattle.moka_cache.specs.declared.error.GetWithRefused.{GetWithRefused}
-use Rattle.moka_cache.specs.declared.error.GetWithRefused.TheVariants.{Lookup}
+use Rattle.moka_cache.specs.parts.GetWithRefused.{GetWithRefused}
+use Rattle.moka_cache.specs.parts.GetWithRefused.TheVariants.{Lookup}
 use Rattle.moka_cache.specs.Given.{ComesBack, Sees}
 use Rattle.moka_cache.specs.Synchronous.{GetsValue, GetsWith, Makes, Synchronous}
 use Rattle.moka_uses.specs.Handled.{GoesOnAfter, ReadsThroughOrRetries, found_or_refused}

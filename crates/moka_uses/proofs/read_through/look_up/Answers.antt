@@ -4,7 +4,7 @@ use Rattle.moka_engine.specs.parts.InsertRefused.{InsertRefused}
 use Rattle.moka_engine.specs.parts.Instant.{Instant}
 use Rattle.moka_engine.specs.Runs.{Engine}
 use Rattle.moka_engine.specs.State.{Meaning}
-use Rattle.moka_cache.specs.declared.error.GetWithRefused.{GetWithRefused}
+use Rattle.moka_cache.specs.parts.GetWithRefused.{GetWithRefused}
 use Rattle.moka_cache.specs.Synchronous.{GetsOrInsertsIfNoError, HandsOutIfNoError, Makes}
 use Rattle.moka_uses.specs.Made.{LooksUp}
 use Rattle.moka_uses.proofs.read_through.look_up.Goals as goal

@@ -3,7 +3,7 @@
 use crate::support::prelude::*;
 
 use super::{Cache, invalidated, removed, value_of};
-use crate::engine::moka_cache::error::NotTold;
+use crate::engine::moka_calls::error::NotTold;
 use crate::engine::moka_parts::closures::{PredicateFn, Weigher};
 use crate::engine::moka_parts::error::OutOfMemory;
 use crate::engine::moka_parts::housekeeper::Clock;
@@ -93,7 +93,7 @@ impl<
     }
 
     // Takes the key that passes out: its value, and whether the listener was notified.
-    fn take_by<T: KeyTest<K>, C: Clock>(
+    pub(super) fn take_by<T: KeyTest<K>, C: Clock>(
         &mut self,
         test: &T,
         hash: u64,

@@ -1,7 +1,7 @@
 use Rattle.std.proofs.Common.{◌≡◌, ◌∙◌, refl, ℕ, Result, Ok, Err, IfOk, ap, sym, subst}
 use Rattle.moka_parts.specs.Runs.{Engine}
 use Rattle.moka_engine.specs.Config.{new_engine}
-use Rattle.moka_cache.specs.Synchronous.{Synchronous, fresh}
+use Rattle.moka_calls.specs.Synchronous.{Synchronous, fresh}
 use Rattle.moka_cache.proofs.cache.Cache+K+V+X+L+P+W.build.Goals as goal
 
 -- the hasher that an engine was made with is its own

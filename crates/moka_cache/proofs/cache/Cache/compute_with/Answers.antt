@@ -3,9 +3,9 @@ use Rattle.std.specs.Prelude.{IfSome, Result}
 use Rattle.moka_parts.specs.declared.error.OutOfMemory.{OutOfMemory}
 use Rattle.moka_parts.specs.Hashing.{key_hash}
 use Rattle.moka_parts.proofs.Options.{none_by_test}
-use Rattle.moka_cache.specs.declared.compute.CompResult.TheVariants.{StillNone, Unchanged}
-use Rattle.moka_cache.specs.Computing.{Computed, HandsOutComputedPut, HandsOutLeft, Left, LeftNone, Puts, Takes}
-use Rattle.moka_cache.specs.Synchronous.{GetsValue}
+use Rattle.moka_calls.specs.declared.compute.CompResult.TheVariants.{StillNone, Unchanged}
+use Rattle.moka_calls.specs.Computing.{Computed, HandsOutComputedPut, HandsOutLeft, Left, LeftNone, Puts, Takes}
+use Rattle.moka_calls.specs.Synchronous.{GetsValue}
 use Rattle.moka_cache.proofs.Computing.{computed_put, computed_take, heard, was_seen}
 use Rattle.moka_cache.proofs.cache.Cache.compute_with.Goals as goal
 

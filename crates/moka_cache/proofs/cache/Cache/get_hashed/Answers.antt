@@ -1,9 +1,9 @@
 use Rattle.std.proofs.Common.{◌∙◌, false}
 use Rattle.moka_parts.specs.Listed.{ListedRun}
 use Rattle.moka_parts.specs.Records.{record_of_key}
-use Rattle.moka_cache.specs.Given.{Sees}
-use Rattle.moka_cache.specs.Synchronous.{value_found}
-use Rattle.moka_engine.proofs.Alike.{get_alike, listed_run_alike}
+use Rattle.moka_calls.specs.Given.{Sees}
+use Rattle.moka_calls.specs.Synchronous.{value_found}
+use Rattle.moka_parts.proofs.Alike.{get_alike, listed_run_alike}
 use Rattle.moka_cache.proofs.Waiting.{none_of_key}
 use Rattle.moka_cache.proofs.Asking.{got, value_copied, handed_out, seen_shown, unchanged_when_refused}
 use Rattle.moka_cache.proofs.Keeping.{value_stays}

@@ -2,12 +2,12 @@ use Rattle.std.proofs.Common.{◌∙◌, ap, arith, rules, sym, refl, ℕ, [], �
 use Rattle.std.proofs.lemmas.List.{map-append, nil_from_length}
 use Rattle.moka_parts.specs.declared.error.OutOfMemory.{OutOfMemory}
 use Rattle.moka_parts.specs.Hashing.{key_hash}
-use Rattle.moka_cache.specs.Counters.{after_look_up, after_look_ups}
-use Rattle.moka_cache.specs.Many.{GetsItem}
-use Rattle.moka_cache.specs.Synchronous.{GetsValue}
+use Rattle.moka_parts.specs.Counters.{after_look_up, after_look_ups}
+use Rattle.moka_calls.specs.Many.{GetsItem}
+use Rattle.moka_calls.specs.Synchronous.{GetsValue}
 use Rattle.moka_cache.proofs.Gotten.{counts_one_more, got_item, refused_get}
 use Rattle.moka_cache.proofs.InOrder.{made_none, made_next, made_last}
-use Rattle.moka_cache.proofs.Made.{made_nothing}
+use Rattle.moka_calls.proofs.Made.{made_nothing}
 use Rattle.moka_cache.proofs.cache.Cache.get_many.Goals as goal
 
 pub returns-in_default-clause-made : goal.returns-in_default-clause-made

@@ -2,8 +2,8 @@ use Rattle.std.proofs.Common.{◌≡◌, ◌∙◌, ℕ, refl, subst, sym, Some,
 use Rattle.std.proofs.lemmas.Option.{same_Some}
 use Rattle.moka_parts.specs.declared.error.OutOfMemory.{OutOfMemory}
 use Rattle.moka_parts.specs.Hashing.{key_hash}
-use Rattle.moka_cache.specs.Counters.{after_look_up}
-use Rattle.moka_cache.specs.Given.{Sees}
+use Rattle.moka_parts.specs.Counters.{after_look_up}
+use Rattle.moka_calls.specs.Given.{Sees}
 use Rattle.moka_cache.proofs.Getting.{got_nothing, got_refused, got_value}
 use Rattle.moka_cache.proofs.Entries.{put_and_handed_out}
 use Rattle.moka_cache.proofs.cache.Cache.get_or_insert.Goals as goal

@@ -16,3 +16,8 @@ pub returns-in_err-insert_hashed-clause-made : goal.returns-in_err-insert_hashed
 returns-in_err-insert_hashed-clause-made g c =
     let p = err_from_is_err_and c.from_residual.result c.from_residual.ensures.1 in
     rw (p.1, p.2) (Err c.in_err-insert_hashed.field-0.0, refl, not_inserted g.V.Clone.is_clone _ c.args.put.key _ c.args.now c.args.self.now.engine c.insert_hashed.new.self.engine c.args.clock.now c.insert_hashed.new.clock c.args.put.value c.in_err-insert_hashed.field-0.0 c.in_err-insert_hashed.ensures.made)
+
+pub returns-in_err-insert_hashed-clause-back : goal.returns-in_err-insert_hashed-clause-back
+returns-in_err-insert_hashed-clause-back g c =
+    let p = err_from_is_err_and c.from_residual.result c.from_residual.ensures.1 in
+    rw (p.1, p.2) c.in_err-insert_hashed.ensures.back

@@ -2,8 +2,8 @@ use Rattle.std.proofs.Common.{◌∙◌, ap, arith, sym, refl, ℕ, [], ◌∷�
 use Rattle.std.specs.Vec.Iter.{into_iter_items}
 use Rattle.std.proofs.lemmas.List.{nil_from_length}
 use Rattle.moka_parts.specs.Hashing.{key_hash}
-use Rattle.moka_cache.specs.Many.{InsertsItem}
-use Rattle.moka_cache.specs.Synchronous.{InsertsEntry}
+use Rattle.moka_calls.specs.Many.{InsertsItem}
+use Rattle.moka_calls.specs.Synchronous.{InsertsEntry}
 use Rattle.moka_cache.proofs.InOrder.{made_none, made_next, made_last, refused_item}
 use Rattle.moka_cache.proofs.cache.Cache.insert_many.Goals as goal
 

@@ -1,8 +1,8 @@
 use Rattle.std.proofs.Common.{◌≡◌, ◌+◌, List, ◌++◌, length}
 use Rattle.std.specs.Vec.Iter.{into_iter_items, into_iter_len}
 use Rattle.moka_parts.specs.Hashing.{key_hash}
-use Rattle.moka_cache.specs.Many.{Each, InsertsItem}
-use Rattle.moka_cache.specs.Synchronous.{Makes, meaning_of}
+use Rattle.moka_calls.specs.Many.{Each, InsertsItem}
+use Rattle.moka_calls.specs.Synchronous.{Makes, meaning_of}
 use Rattle.moka_cache.proofs.cache.Cache.insert_many.Given as goal
 
 abbrev pub invariant-loop-key : goal.invariant-loop-key

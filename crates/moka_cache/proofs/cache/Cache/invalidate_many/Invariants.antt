@@ -1,7 +1,7 @@
 use Rattle.std.proofs.Common.{◌≡◌, List, ◌++◌, length, Ok}
 use Rattle.moka_parts.specs.Hashing.{key_hash}
-use Rattle.moka_cache.specs.Many.{Each, Invalidates}
-use Rattle.moka_cache.specs.Synchronous.{Makes, hears_clones, meaning_of}
+use Rattle.moka_calls.specs.Many.{Each, Invalidates}
+use Rattle.moka_calls.specs.Synchronous.{Makes, hears_clones, meaning_of}
 use Rattle.moka_cache.proofs.cache.Cache.invalidate_many.Given as goal
 
 abbrev pub invariant-loop-key : goal.invariant-loop-key

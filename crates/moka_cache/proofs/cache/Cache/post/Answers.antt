@@ -1,5 +1,5 @@
 use Rattle.moka_parts.specs.State.{Meaning}
-use Rattle.moka_cache.specs.Synchronous.{meaning_of}
+use Rattle.moka_calls.specs.Synchronous.{meaning_of}
 use Rattle.moka_cache.proofs.Posting.{posted_at_once, posted_after_run}
 use Rattle.moka_cache.proofs.cache.Cache.post.Goals as goal
 

@@ -1,12 +1,12 @@
 use Rattle.std.proofs.Common.{refl}
 use Rattle.moka_cache.proofs.Membership.{run_leaves_members}
-use Rattle.moka_cache.proofs.Posting.{made_run}
+use Rattle.moka_cache.proofs.Posting.{run_made}
 use Rattle.moka_cache.proofs.cache.Cache.run_pending_tasks.Goals as goal
 
 pub returns-clause-made : goal.returns-clause-made
 returns-clause-made g c =
     let run = c.run_pending_tasks-more.ensures.step in
-    rw (← c.self.view_is) (_, _, (refl, refl), made_run _ c.self.inside.engine c.run_pending_tasks-more.new.self c.args.clock.now c.run_pending_tasks-more.new.clock c.args.now c.run_pending_tasks-more.result run.0 run.1 run.2 run.3)
+    rw (← c.self.view_is) (_, _, (refl, refl), run_made _ c.self.inside.engine c.run_pending_tasks-more.new.self c.args.clock.now c.run_pending_tasks-more.new.clock c.args.now _ c.run_pending_tasks-more.result run.0 run.1 refl run.2 run.3)
 
 pub returns-clause-members : goal.returns-clause-members
 returns-clause-members g c =

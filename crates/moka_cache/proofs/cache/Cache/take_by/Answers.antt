@@ -2,10 +2,10 @@ use Rattle.std.proofs.Common.{◌∙◌, refl, ap, Some, None}
 use Rattle.std.specs.FinMap.{insert}
 use Rattle.moka_parts.specs.State.{Meaning, is_disabled}
 use Rattle.moka_parts.proofs.RunKeeps.{keeps_itself}
-use Rattle.moka_cache.specs.Synchronous.{meaning_of}
+use Rattle.moka_calls.specs.Synchronous.{meaning_of}
 use Rattle.moka_cache.proofs.Waiting.{remove_hands_out}
 use Rattle.moka_cache.proofs.Asking.{took_none, took}
-use Rattle.moka_cache.proofs.Gone.{has_left}
+use Rattle.moka_cache.proofs.Gone.{has_left, value_taken}
 use Rattle.moka_cache.proofs.ByTest.{removed_as_key, removed_some_key}
 use Rattle.moka_cache.proofs.cache.Cache.take_by.Goals as goal
 
@@ -47,3 +47,13 @@ post-requires-clause-waiting g c =
     let found = removed_some_key g.K.PartialEq.eq (g.T.KeyTest.passes c.args.test.now) (g.met.T.KeyTest.one_key c.args.test.now) c.self.inside.engine.state (c.in-Some.entry, c.in-Some.ticket) c.remove_by.new.self.state c.in-Some.ensures.step in
     let out = remove_hands_out g.K.PartialEq.eq c.self.inside.engine.state found.0 (c.in-Some.entry, c.in-Some.ticket) c.remove_by.new.self.state c.invariant_holds.ensures.valid.numbered found.1 in
     (out.0.operation, ap (λ s. s.outstanding) c.notify_invalidate-told.ensures.2 ∙ out.0.outstanding ∙ ap (λ m. insert m c.in-Some.ticket.0 out.0.operation) c.self.invariant)
+
+pub returns-in_default-clause-value : goal.returns-in_default-clause-value
+returns-in_default-clause-value g c =
+    let as_key = removed_as_key g.K.PartialEq.eq (g.T.KeyTest.passes c.args.test.now) (g.met.T.KeyTest.one_key c.args.test.now) c.self.inside.engine.state None c.remove_by.new.self.state c.in_default.ensures.step in
+    rw (← c.self.view_is) (λ key passing. value_taken g.K.PartialEq.eq key c.self.inside.engine.state c.remove_by.new.self.state None (as_key key passing))
+
+pub returns-clause-value : goal.returns-clause-value
+returns-clause-value g c =
+    let as_key = removed_as_key g.K.PartialEq.eq (g.T.KeyTest.passes c.args.test.now) (g.met.T.KeyTest.one_key c.args.test.now) c.self.inside.engine.state (Some (c.in-Some.entry, c.in-Some.ticket)) c.remove_by.new.self.state c.in-Some.ensures.step in
+    rw (← c.self.view_is) (λ key passing. value_taken g.K.PartialEq.eq key c.self.inside.engine.state c.remove_by.new.self.state (Some (c.in-Some.entry, c.in-Some.ticket)) (as_key key passing))

@@ -1,5 +1,5 @@
 use Rattle.std.proofs.Common.{refl}
-use Rattle.moka_cache.specs.Synchronous.{meaning_of}
+use Rattle.moka_calls.specs.Synchronous.{meaning_of}
 use Rattle.moka_segments.proofs.Each.{nothing_ran, first_ran}
 use Rattle.moka_segments.proofs.segmented.SegmentedCache.+run_each.Goals as goal
 

@@ -1,5 +1,5 @@
 use Rattle.std.proofs.Common.{refl, arith}
-use Rattle.moka_cache.specs.Synchronous.{meaning_of}
+use Rattle.moka_calls.specs.Synchronous.{meaning_of}
 use Rattle.moka_segments.specs.Whole.{AllRan}
 use Rattle.moka_segments.proofs.Each.{as_many_back, written_back}
 use Rattle.moka_segments.proofs.Within.{whole_within}

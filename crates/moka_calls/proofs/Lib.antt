@@ -1,0 +1,7 @@
+pub mod Made
+pub mod Lists
+pub mod Anytime
+mod Counting
+mod Registering
+mod Telling
+pub mod Limits

@@ -1,0 +1,11 @@
+pub mod Given
+pub mod Synchronous
+pub mod Laws
+pub mod Counted
+pub mod Removed
+pub mod Entries
+pub mod Computing
+pub mod Many
+pub mod Limits
+pub mod Registering
+pub mod Texts
