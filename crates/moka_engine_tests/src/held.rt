@@ -133,8 +133,7 @@ enum Way {
 
 /// Whether a key is taken out, of which nobody is notified.
 fn is_removed(cache: &mut Held, key: &Unique, now: Instant) -> bool {
-    let hash = cache.hash(key);
-    match cache.remove_entry_with_own_hash(key, hash) {
+    match cache.remove_entry(key, 1) {
         Some((entry, ticket)) => {
             cache.notify_invalidate(&entry, now).is_ok() && cache.send(ticket).is_ok()
         }
