@@ -107,7 +107,7 @@ macro_rules! setters {
         /// A name for diagnostics; `name` of the cache returns it. By default there is none.
         ///
         /// ```
-        /// # use ravulemis::sync::Cache;
+        /// use ravulemis::sync::Cache;
         /// let cache: Cache<u32, u32> = Cache::builder().name("users").build();
         /// assert_eq!(cache.name(), Some("users"));
         /// ```
@@ -120,7 +120,7 @@ macro_rules! setters {
         /// nothing. By default there is no bound.
         ///
         /// ```
-        /// # use ravulemis::sync::Cache;
+        /// use ravulemis::sync::Cache;
         /// let cache = Cache::builder().max_capacity(2).build();
         /// (0..10).for_each(|key| cache.insert(key, key));
         /// cache.run_pending_tasks();
@@ -134,7 +134,7 @@ macro_rules! setters {
         /// The number of entries that room is made for at once, whatever their weights. It bounds nothing.
         ///
         /// ```
-        /// # use ravulemis::sync::Cache;
+        /// use ravulemis::sync::Cache;
         /// let cache = Cache::builder().max_capacity(10_000).initial_capacity(1000).build();
         /// cache.insert(1, 'a');
         /// ```
@@ -146,7 +146,7 @@ macro_rules! setters {
         /// How a cache that is full chooses what stays. By default it is TinyLFU.
         ///
         /// ```
-        /// # use ravulemis::sync::Cache;
+        /// use ravulemis::sync::Cache;
         /// use ravulemis::policy::EvictionPolicy;
         ///
         /// let cache = Cache::builder().max_capacity(2).eviction_policy(EvictionPolicy::lru()).build();
@@ -162,7 +162,7 @@ macro_rules! setters {
         /// How long an entry stays after it was written, exact to the nanosecond. By default it stays.
         ///
         /// ```
-        /// # use ravulemis::sync::Cache;
+        /// use ravulemis::sync::Cache;
         /// use std::time::Duration;
         ///
         /// let cache = Cache::builder().time_to_live(Duration::from_millis(1)).build();
@@ -178,7 +178,7 @@ macro_rules! setters {
         /// How long an entry stays after it was written or read, exact to the nanosecond. By default it stays.
         ///
         /// ```
-        /// # use ravulemis::sync::Cache;
+        /// use ravulemis::sync::Cache;
         /// use std::time::Duration;
         ///
         /// let cache = Cache::builder().time_to_idle(Duration::from_millis(1)).build();
@@ -194,7 +194,7 @@ macro_rules! setters {
         /// Decides when each entry expires. By default none does by itself.
         ///
         /// ```
-        /// # use ravulemis::sync::Cache;
+        /// use ravulemis::sync::Cache;
         /// use std::time::{Duration, Instant};
         ///
         /// struct Seconds;
@@ -216,11 +216,11 @@ macro_rules! setters {
         }
 
         /// Weighs each entry as it is inserted. It has to give equal weights for equal arguments. One that exceeds the
-        /// capacity, or a shard's share of it, counts as one more than that: such an entry is not kept. By default
-        /// each weighs 1.
+        /// capacity, or a shard's share of it, counts as one more than that: such an entry is not kept. If it replaces
+        /// a value that is kept, all others of its shard leave before it. By default each weighs 1.
         ///
         /// ```
-        /// # use ravulemis::sync::Cache;
+        /// use ravulemis::sync::Cache;
         /// let weigher = |_: &u32, text: &String| text.len().try_into().unwrap_or(u32::MAX);
         /// let cache = Cache::builder().max_capacity(10).weigher(weigher).build();
         /// cache.insert(1, "four".to_string());
@@ -235,7 +235,7 @@ macro_rules! setters {
         /// Lets `invalidate_entries_if` take predicates. By default it refuses each.
         ///
         /// ```
-        /// # use ravulemis::sync::Cache;
+        /// use ravulemis::sync::Cache;
         /// let cache: Cache<u32, u32> = Cache::builder().support_invalidation_closures().build();
         /// assert!(cache.invalidate_entries_if(|key, _| key % 2 == 0).is_ok());
         /// let cache: Cache<u32, u32> = Cache::builder().build();

@@ -39,8 +39,10 @@ type Cache<K, V> =
 // If no entry can expire the clock is read once in so many calls: a moment then says only when a run is due, and a
 // reading makes an insert a quarter to a half dearer.
 const CALLS_A_READING: u32 = 64;
-// A run of maintenance asks predicates about so many entries.
+// A run of maintenance asks predicates about so many entries, and one of a single pass lets so many expired ones leave.
 const ENTRIES_A_RUN: u64 = 384;
+// A visit makes so many runs at most.
+const RUNS_A_VISIT: u32 = 16;
 // A call makes a run if the last one was so many nanoseconds ago. A shard that had no call for so long has one due.
 const QUIET: u64 = 300_000_000;
 
@@ -99,6 +101,8 @@ pub(crate) struct Shard<K: 'static, V> {
     is_timed: bool,
     settings: Arc<Settings<K, V>>,
     capacity: Option<u64>,
+    // The capacity, if the runs that calls start make a single pass, which may leave more.
+    single_passes_within: Option<u64>,
     // What was counted beside the cache: by caches that a panic ended, of makers and of what was refused.
     counted: Stats,
 }
@@ -124,6 +128,7 @@ impl<K: Eq + Hash + 'static, V> Shard<K, V> {
             unasked: 0,
             is_in_call: AtomicBool::new(false),
             is_timed: settings.is_timed(),
+            single_passes_within: capacity.filter(|_| settings.listener.is_some()),
             settings,
             capacity,
             counted: Stats::default(),
@@ -140,9 +145,10 @@ impl<K: Eq + Hash + 'static, V> Shard<K, V> {
 
     #[cold]
     fn empty(&mut self) {
+        let empty = cache(&self.settings, self.capacity, self.clock);
         self.counted = self.stats();
         self.unasked = 0;
-        self.cache = cache(&self.settings, self.capacity, self.clock);
+        self.cache = empty;
         *self.is_in_call.get_mut() = false;
     }
 
@@ -201,7 +207,8 @@ impl<K: Eq + Hash + 'static, V> Shard<K, V> {
         }
     }
 
-    /// Lets what is due leave, if no call has come for so long that it would have.
+    /// Lets what is due leave, if no call has come for so long that it would have. No call goes on here with what a run
+    /// of a single pass leaves, so some more are made.
     pub fn visit(&mut self)
     where
         V: Clone,
@@ -211,7 +218,13 @@ impl<K: Eq + Hash + 'static, V> Shard<K, V> {
             return;
         }
         self.now = now;
-        self.run_what_is_due(now);
+        for _ in 0..RUNS_A_VISIT {
+            let before = self.cache.removals().expired;
+            self.run_what_is_due(now);
+            if self.cache.removals().expired - before < ENTRIES_A_RUN {
+                break;
+            }
+        }
     }
 
     // Makes the run that is due at a moment, if one is. The cache has no call for it alone. This one finds nothing, at
@@ -341,6 +354,22 @@ impl<K: Eq + Hash + 'static, V> Shard<K, V> {
         if let Err(refused) = self.change(|cache, clock| cache.insert(key, value, now, clock)) {
             self.refuse(refused.key, refused.value);
         }
+        if self.is_exceeded() {
+            self.make_room(now);
+        }
+    }
+
+    // Whether runs of a single pass have left more than the capacity.
+    #[inline]
+    fn is_exceeded(&self) -> bool {
+        self.single_passes_within
+            .is_some_and(|most| self.cache.weighted_size() > most)
+    }
+
+    // One heavy entry may take the room of more light ones than a single pass lets leave.
+    #[cold]
+    fn make_room(&mut self, now: Instant) {
+        self.change(|cache, clock| cache.run_pending_tasks(now, clock));
     }
 
     /// The entry of a key, the one that is kept if one is, whose value is made if there is none. A maker that panics
@@ -502,7 +531,8 @@ impl<K: 'static, V> Shard<K, V> {
 }
 
 // The engine's own limit of a run does not count the time of the caller's listener, which is notified after the run. So
-// the runs that calls start make a single pass then, which leaves the rest to the next calls.
+// the runs that calls start make a single pass then, which leaves the rest to the next calls, but for what exceeds the
+// capacity after an insert.
 fn housekeeping(has_listener: bool) -> HousekeeperConfig {
     let mut config = HousekeeperConfig::default();
     if has_listener {

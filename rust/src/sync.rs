@@ -356,7 +356,9 @@ where
     }
 
     /// Does what calls left for later: what has expired, was invalidated or exceeds the capacity leaves. A shard's lock
-    /// is held for one run at a time, which ends when nothing is due or a predicate was asked about 384 entries.
+    /// is held for one run at a time, which ends when nothing is due or predicates were asked about 384 entries. The
+    /// run that comes to the end of a shard also asks each predicate about its entries until one is covered, to drop
+    /// those predicates that are done.
     ///
     /// ```
     /// let cache = ravulemis::sync::Cache::new(2);

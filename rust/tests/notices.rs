@@ -1,6 +1,7 @@
 //! What leaves a shared cache: whom a call tells, for whom it waits, and where keys and values are dropped.
 
 use ravulemis::RemovalCause;
+use ravulemis::policy::EvictionPolicy;
 use ravulemis::sync::Cache;
 use std::collections::HashMap;
 use std::panic::{AssertUnwindSafe, RefUnwindSafe, UnwindSafe, catch_unwind};
@@ -108,6 +109,26 @@ fn a_shard_exceeds_its_capacity_by_64_entries_at_most() {
     };
     let most = (0..1000).map(insert).max();
     assert!(most <= Some(164), "there were {most:?}");
+}
+
+#[test]
+fn heavy_entries_exceed_no_capacity_where_there_is_a_listener() {
+    for (policy, first) in [(EvictionPolicy::lru(), 50_000), (EvictionPolicy::tiny_lfu(), 0)] {
+        let cache = Cache::builder()
+            .max_capacity(500_000)
+            .weigher(|_, weight: &u32| *weight)
+            .eviction_policy(policy)
+            .eviction_listener(|_, _, _| ())
+            .build();
+        (0..50_000).for_each(|key| cache.insert(key, 10));
+        cache.run_pending_tasks();
+        let insert = |key| {
+            cache.insert(key, 50_000);
+            cache.weighted_size()
+        };
+        let most = (first..first + 400).map(insert).max();
+        assert!(most <= Some(500_000), "they weighed {most:?}");
+    }
 }
 
 #[test]
@@ -229,6 +250,21 @@ fn what_has_expired_leaves_while_only_another_shard_is_called() {
         looks,
         "a visit is no look-up"
     );
+}
+
+#[test]
+fn many_leave_a_quiet_shard_by_each_visit() {
+    let told = Arc::new(AtomicU32::new(0));
+    let counts = Arc::clone(&told);
+    let builder = Cache::builder().shards(2).time_to_live(Duration::from_millis(500));
+    let cache = builder.eviction_listener(move |_, _, _| count(&counts)).build();
+    (0..40_000).for_each(|key| cache.insert(key, key));
+    let start = Instant::now();
+    while told.load(Ordering::SeqCst) < 40_000 && start.elapsed() < Duration::from_secs(10) {
+        cache.get(&1);
+        thread::sleep(Duration::from_millis(1));
+    }
+    assert_eq!(told.load(Ordering::SeqCst), 40_000);
 }
 
 #[test]

@@ -1,4 +1,4 @@
--- What limits a cache stays as it is: its times and its policy always, and its capacity until it is set.
+-- What limits a cache stays as it is, its times, its policy and its capacity, if no call sets the capacity.
 use Rattle.std.specs.Prelude.{◌≡◌, ℕ, List, [], ◌∷◌, Option, Result, ⊤}
 use Rattle.moka_parts.specs.declared.calls.Call.{Call}
 use Rattle.moka_parts.specs.declared.calls.Call.TheVariants as call

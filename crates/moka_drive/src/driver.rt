@@ -29,7 +29,7 @@ use std::hash::{BuildHasher, Hash};
 /// promised of it: one with a batch of at least one that begins with every operation sent, and is not cut short, ends
 /// with count and weight exactly the records', and the weight within the capacity. If a listener is set, it is notified
 /// of each value that leaves the map in a call exactly once, in the order in which they leave; the value of a removal
-/// is handed back instead.
+/// is handed back, and it is notified of that only if the call carries a moment.
 ///
 /// The calls are in the order of time if no insert is earlier than the last write of a record that is there, and each
 /// send moves the oldest operation that waits. If the cache is empty at first and the calls are in the order of time,

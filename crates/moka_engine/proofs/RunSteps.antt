@@ -28,7 +28,7 @@ use Rattle.moka_maintenance.specs.Sweeps.{tests_in}
 use Rattle.moka_maintenance.specs.Queues.{ArePrepared}
 use Rattle.moka_maintenance.specs.Passes.{IsRan}
 use Rattle.moka_maintenance.proofs.Scanned.{nothing_kept}
-use Rattle.moka_maintenance.proofs.Promises.{IsSimple, run_promised, run_keeps_listening, run_leaves_lasting, run_settles_each, run_leaves_valid, run_leaves_exact}
+use Rattle.moka_maintenance.proofs.Promises.{IsSimple, run_promised, run_keeps_listening, run_leaves_lasting, run_leaves_valid, run_leaves_exact}
 use Rattle.moka_inner.specs.Interior.{Interior}
 use Rattle.moka_engine.specs.BaseCache.{IsCache, IsWhole}
 use Rattle.moka_engine.specs.Makes.{Takes}
@@ -100,20 +100,17 @@ module _ {K V X L P W C S : Type 0} {tells : L → K → V → RemovalCause → 
       let all : IsAllSent s = ap (λ (c : Engine K V S X L P W). c.state.outstanding) (held ∙ is) ∙ sent in
       subst IsExact (sym ends) (run_leaves_exact s simple terms by_state h.store.ordered refl applied limited refl sketched ran all)
 
-  -- where no hit renews an expiry, none is left that has come
-  lasts : HasNoneDue q.now.0 j.kept → IsAllSent s → NeverRenewsOnRead read s → (k : ℕ) (r : Record K V) → get j.kept.records k ≡ Some r → is_expired r terms.now ≡ false
-  lasts none all never k r there = go (is_some s.settings.expiry) refl
+  -- where no hit renews an expiry, no settled member is left whose expiry has come
+  lasts : HasNoneDue q.now.0 j.kept → NeverRenewsOnRead read s → (k : ℕ) (r : Record K V) → get j.kept.records k ≡ Some r → is_member k j.kept.access ≡ true → is_applied r ≡ true → is_expired r terms.now ≡ false
+  lasts none never k r there is_in settled = go (is_some s.settings.expiry) refl
     where
       now_is : q.now.0 ≡ terms.now
       now_is = ap (λ (t : parts.Tests). t.now) by_state
 
-      each : (is_member k j.kept.access ≡ true) × (is_applied r ≡ true)
-      each = run_settles_each s simple terms by_state h.store.ordered refl applied limited refl sketched ran all k r there
-
       go : (b : Bool) → is_some s.settings.expiry ≡ b → is_expired r terms.now ≡ false
       go true set =
           let timed = h.store.timed ∙ set in
-          subst (λ n. is_expired r n ≡ false) now_is (lasts-timed q.now.0 j.kept (still-timed i.kept j.kept timed keeps (h.store.timers never timed)) none k r there each.0 each.1)
+          subst (λ n. is_expired r n ≡ false) now_is (lasts-timed q.now.0 j.kept (still-timed i.kept j.kept timed keeps (h.store.timers never timed)) none k r there is_in settled)
       go false unset =
           ap (λ e. has_passed (moment_of e) terms.now) (run_leaves_lasting s simple terms by_state h.store.ordered refl applied limited refl sketched ran (cache.served.unexpiring (none_by_test s.settings.expiry unset)) k r there)
 

@@ -152,12 +152,13 @@ impl<
     /// - `name`: for the caller alone.
     /// - `max_capacity`: the greatest sum of weights that runs of maintenance leave; `None` is no bound, and with 0 the
     ///   cache keeps nothing and takes no inserts.
-    /// - `initial_capacity`: for how many records room is made at once, whatever they weigh; `None` is 0. It bounds
-    ///   nothing.
+    /// - `initial_capacity`: for how many records room is made at once at least, whatever they weigh; `None` asks for
+    ///   none. It bounds nothing.
     /// - `build_hasher`: hashes keys, for `hash` and for the map.
     /// - `weigher`: weighs entries as they are inserted, from 0 to 2^32 - 1; without one each weighs 1.
     /// - `eviction_policy`: what leaves if the capacity is exceeded.
-    /// - `eviction_listener`: is notified of key, value and cause of each removal but those by `remove_entry`.
+    /// - `eviction_listener`: is notified of key, value and cause of each removal but those by `remove_entry`,
+    ///   `remove_entry_with_own_hash` and `remove_by`.
     /// - `expiration_policy`: the time to live, as a duration since the last insert; the time to idle, as one since the
     ///   last insert or read; and the expiry of single entries, which inserts and gets ask. Any duration is taken, to
     ///   the nanosecond: the sum of a moment and a duration saturates at 2^64 - 1 nanoseconds.

@@ -203,7 +203,10 @@ impl fmt::Display for FateText {
             (Sight::Visible, _) => write!(f, "hidden now, {after}"),
             _ => match self.after.applied {
                 Some(true) => write!(f, "still in the map, {after}"),
-                _ => write!(f, "still in the map until its last write is sent, {after}"),
+                _ => write!(
+                    f,
+                    "still in the map until its last write is applied, {after}"
+                ),
             },
         }
     }

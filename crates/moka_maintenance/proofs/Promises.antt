@@ -238,7 +238,7 @@ module _ {K V X P W L C : Type 0} {tells : L → K → V → RemovalCause → L 
   none_unsettled all some = true≢false (sym (all_settled (IsWaitingIn s.outstanding []) d.records d.access end_consistent (nothing_waits s.outstanding all) some.number some.is_in) ∙ some.unsettled)
 
   -- and each record is a settled member
-  pub run_settles_each : IsAllSent s → (k : ℕ) (r : Record K V) → get d.records k ≡ Some r → (is_member k d.access ≡ true) × (is_applied r ≡ true)
+  run_settles_each : IsAllSent s → (k : ℕ) (r : Record K V) → get d.records k ≡ Some r → (is_member k d.access ≡ true) × (is_applied r ≡ true)
   run_settles_each all k r there = record_settled (IsWaitingIn s.outstanding []) (nothing_waits s.outstanding all) k r (counted_of k d.access) (subst (λ o. IsSound (IsWaitingIn s.outstanding []) k o (counted_of k d.access)) there (end_consistent.sound k))
 
   -- ---- the write list
@@ -352,7 +352,7 @@ module _ {K V X P W L C : Type 0} {tells : L → K → V → RemovalCause → L 
   leaves_list : LeavesList ns ks s terms choices course
   leaves_list = record { list = list_after; rests = comes_to_rest; swept = writes_ended }
 
-  module _ (read : X → K → V → ℕ → Option ℕ → ℕ → Option ℕ) (lasts : IsAllSent s → NeverRenewsOnRead read s → (k : ℕ) (r : Record K V) → get d.records k ≡ Some r → is_expired r terms.now ≡ false) where
+  module _ (read : X → K → V → ℕ → Option ℕ → ℕ → Option ℕ) (lasts : NeverRenewsOnRead read s → (k : ℕ) (r : Record K V) → get d.records k ≡ Some r → is_member k d.access ≡ true → is_applied r ≡ true → is_expired r terms.now ≡ false) where
     justified : AreJustified says (tests_of s terms.now) (before_steps s choices) s.predicates (ran.by.steps ++ ran.dropped.steps)
     justified =
         subst (λ t. AreJustified says t (before_steps s choices) s.predicates (ran.by.steps ++ ran.dropped.steps)) by_state
@@ -389,11 +389,12 @@ module _ {K V X P W L C : Type 0} {tells : L → K → V → RemovalCause → L 
 
     settles : Settles says read s terms course left_state
     settles = record {
-      exact = λ whole all. run_leaves_exact all;
+      settled = λ never k r there is_in up_to_date. lasts never k r there is_in up_to_date;
+      exact = λ all. run_leaves_exact all;
       within = λ whole all. elim (at_rest whole) [ inl some ↦ absurd (none_unsettled all some) | inr within ↦ within ];
-      expired = λ whole all never k r there. lasts all never k r there;
-      predicates = λ whole all enabled supported enough. no_predicate all supported enough;
-      covered = λ whole all enabled supported enough p k r is there covers. not_contained qs p (no_predicate all supported enough) (subst (λ ps. Contains ps p) kept_same (covering_stays says s terms.now choices is_free p k r is (ap (λ (c : Contents K V). get c.records k) end_same ∙ there) covers));
+      expired = λ all never k r there. let each = run_settles_each all k r there in lasts never k r there each.0 each.1;
+      predicates = λ all enabled supported enough. no_predicate all supported enough;
+      covered = λ all enabled supported enough p k r is there covers. not_contained qs p (no_predicate all supported enough) (subst (λ ps. Contains ps p) kept_same (covering_stays says s terms.now choices is_free p k r is (ap (λ (c : Contents K V). get c.records k) end_same ∙ there) covers));
     }
 
     module _ (capacity : ℕ) (plain : IsPlainSurplus s terms.now capacity (before_steps s choices)) where
@@ -471,7 +472,7 @@ module _ {K V X P W L C : Type 0} {tells : L → K → V → RemovalCause → L 
       (subst (λ xs. Told tells m xs n) (left-seen None c ran.by.steps) ran.by.told))))
 
   -- it keeps all promises, from one write list to the other
-  pub run_promised : (read : X → K → V → ℕ → Option ℕ → ℕ → Option ℕ) → (IsAllSent s → NeverRenewsOnRead read s → (k : ℕ) (r : Record K V) → get d.records k ≡ Some r → is_expired r terms.now ≡ false)
+  pub run_promised : (read : X → K → V → ℕ → Option ℕ → ℕ → Option ℕ) → (NeverRenewsOnRead read s → (k : ℕ) (r : Record K V) → get d.records k ≡ Some r → is_member k d.access ≡ true → is_applied r ≡ true → is_expired r terms.now ≡ false)
       → s.settings.listening ≡ is_some l → IsPromised says read tells reads ns ks s terms left passes (with_contents s d qs) l n clock clock_after
   run_promised read lasts listening = record {
     readings = ran.readings;

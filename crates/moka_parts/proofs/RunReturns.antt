@@ -75,11 +75,12 @@ module _ {K V X P W : Type 0} (s : State K V X P W) (bare : IsBare s.records s.a
     module _ (says : P → K → V → Bool → Type 0) (read : X → K → V → ℕ → Option ℕ → ℕ → Option ℕ) where
       settles : Settles says read s terms idle s
       settles = record {
-        exact = λ whole all. bare_is_exact s bare;
+        settled = λ never n r there is_in applied. absurd (not_there n r there);
+        exact = λ all. bare_is_exact s bare;
         within = λ whole all. is_within;
-        expired = λ whole all never n r there. absurd (not_there n r there);
-        predicates = λ whole all enabled supported enough. absurd (true≢false (sym disabled ∙ enabled));
-        covered = λ whole all enabled supported enough p n r is there covers. not_there n r there;
+        expired = λ all never n r there. absurd (not_there n r there);
+        predicates = λ all enabled supported enough. absurd (true≢false (sym disabled ∙ enabled));
+        covered = λ all enabled supported enough p n r is there covers. not_there n r there;
       }
 
       -- with all that is promised of it

@@ -8,7 +8,7 @@ use Rattle.moka_parts.specs.declared.records.Registered.{Registered}
 use Rattle.moka_parts.specs.declared.records.Ticketed.{Ticketed}
 use Rattle.moka_parts.specs.declared.records.Operation.{Operation}
 use Rattle.moka_parts.specs.declared.records.Operation.TheVariants.{Upsert, Removal}
-use Rattle.moka_parts.specs.Records.{Records, Operations, counted_of, numbers_of, is_settled}
+use Rattle.moka_parts.specs.Records.{Records, Operations, counted_of, numbers_of, is_applied, is_member, is_settled}
 use Rattle.moka_parts.specs.State.{State, is_disabled}
 use Rattle.moka_parts.specs.Visibility.{is_expired, Covers}
 use Rattle.moka_parts.specs.Maintenance.{Course, Terms, is_over, is_cut}
@@ -159,21 +159,24 @@ pub record LeavesBehind {K V X P W : Type 0} (s : State K V X P W) (terms : Term
   pub count_high : t.count ≤ len t.records + len t.outstanding
   pub count_low : len t.records ≤ t.count + len t.outstanding
 
--- what a whole run settles once every operation was sent
+-- what a run settles
 pub record Settles {K V X P W : Type 0} (says : P → K → V → Bool → Type 0)
     (read : X → K → V → ℕ → Option ℕ → ℕ → Option ℕ) (s : State K V X P W) (terms : Terms) (course : Course)
     (t : State K V X P W) : Type 0 where
-  -- counts and weights are exactly the records'
-  pub exact : IsWhole s terms course → IsAllSent s → IsExact t
-  -- and within the capacity
+  -- of the settled members none is left whose own expiry has come, whatever was sent, and however the run ended
+  pub settled : NeverRenewsOnRead read s → (n : ℕ) (r : Record K V) → get t.records n ≡ Some r →
+      is_member n t.access ≡ true → is_applied r ≡ true → is_expired r terms.now ≡ false
+  -- once every operation was sent, counts and weights are exactly the records'
+  pub exact : IsAllSent s → IsExact t
+  -- and within the capacity, after a whole run
   pub within : IsWhole s terms course → IsAllSent s → IsWithin t.capacity t.access
   -- no record is left whose own expiry has come
-  pub expired : IsWhole s terms course → IsAllSent s → NeverRenewsOnRead read s → (n : ℕ) (r : Record K V) →
+  pub expired : IsAllSent s → NeverRenewsOnRead read s → (n : ℕ) (r : Record K V) →
       get t.records n ≡ Some r → is_expired r terms.now ≡ false
   -- with a batch for all records no predicate is left
-  pub predicates : IsWhole s terms course → IsAllSent s → is_disabled s.capacity ≡ false →
-      s.settings.invalidator ≡ true → len s.records ≤ terms.batch → t.predicates ≡ []
+  pub predicates : IsAllSent s → is_disabled s.capacity ≡ false → s.settings.invalidator ≡ true →
+      len s.records ≤ terms.batch → t.predicates ≡ []
   -- and none of the records that one covered
-  pub covered : IsWhole s terms course → IsAllSent s → is_disabled s.capacity ≡ false → s.settings.invalidator ≡ true →
+  pub covered : IsAllSent s → is_disabled s.capacity ≡ false → s.settings.invalidator ≡ true →
       len s.records ≤ terms.batch → (p : Registered P) (n : ℕ) (r : Record K V) → Contains s.predicates p →
       get t.records n ≡ Some r → Covers says p r → ⊥

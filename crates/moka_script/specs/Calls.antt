@@ -107,7 +107,7 @@ invif_of (low ∷ high ∷ now ∷ []) = do
   Some (InvalidateIf (record { low = l; high = asked.0 }) asked.1)
 invif_of _ = None
 
--- a run of that moment and batch, with a limit in nanoseconds: four passes
+-- a run of that moment and batch, with a limit in nanoseconds, and four repeats
 abbrev pub run_at : List ℕ → List ℕ → Option ℕ → Option CallText
 run_at now batch limit = do
   n ← number_of 64 now

@@ -1,5 +1,5 @@
 //! A new segmented cache. moka: `sync::builder`, `build` with `segments`.
-ghost use Rattle.std.specs.Prelude.{◌≡◌, IfOk, length, max};
+ghost use Rattle.std.specs.Prelude.{◌≡◌, ◌<◌, ℕ, IfOk, length, max};
 ghost use Rattle.moka_segments.specs.Built.{IsNew, IsSegment, SumsTo, with_share};
 ghost use Rattle.moka_segments.specs.Keys.{HoldNone};
 
@@ -38,7 +38,7 @@ impl<
     ) -> Result<Self, OutOfMemory>
     where
         F: Drop,
-        requires { F.IsAlwaysCallable make }
+        requires { (index : ℕ) → index < router.count → F.pre make index }
         ensures new { IfOk result (λ c. IsNew router max_capacity S.is_clone now.0 (F.post make) c) }
         ensures empty { IfOk result HoldNone }
     {
@@ -54,7 +54,7 @@ impl<
         alloc: Global,
         now: Instant,
     ) -> Result<Vec<Cache<K, V, X, L, P, W, S>>, OutOfMemory>
-        requires { F.IsAlwaysCallable make.now }
+        requires { (index : ℕ) → index < router.now.count → F.pre make.now index }
         ensures { IfOk result (λ segments. IsNew router.now max_capacity S.is_clone now.0 (F.post make.now)
             (record { routing = router.now; segments = segments.items })) }
     {
@@ -107,7 +107,7 @@ impl<
     ) -> Result<Self, OutOfMemory>
     where
         F: Drop,
-        requires { F.IsAlwaysCallable make }
+        requires { (index : ℕ) → index < max count 1 → F.pre make index }
         ensures new { IfOk result (λ c. (c.routing.count ≡ max count 1)
             × IsNew c.routing max_capacity (λ a b. b.initial ≡ a.initial) now.0 (F.post make) c) }
         ensures shares { IfOk result (λ c. (length c.segments ≡ max count 1) × SumsTo max_capacity c.segments) }

@@ -6,8 +6,8 @@ ghost use Rattle.moka_parts.specs.Hashing.{key_hash};
 use std::hash::{BuildHasher, Hash};
 use std::marker::Model;
 
-/// Names the segment of each key, of a number of segments that never changes: by the upper half of the key's hash, so
-/// that keys in one segment still differ in the half by which an index finds them.
+/// Names the segment of each key, of a number of segments that never changes: by the upper half of the key's hash.
+/// An index goes by a product of the whole hash, so the keys of one segment still spread over its index.
 pub struct Router<S> {
     hasher: S,
     count: u32,

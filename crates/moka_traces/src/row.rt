@@ -1,5 +1,9 @@
 //! What the caches of a capacity found.
-ghost use Rattle.std.specs.Prelude.{◌≤◌, IfSome};
+ghost use Rattle.std.specs.Prelude.{◌≡◌, ◌≤◌, IfSome, option_map};
+ghost use Rattle.moka_traces.specs.Ratios.{share_of};
+ghost use Rattle.moka_traces.specs.Rows.{tally_of};
+ghost use Rattle.moka_traces.specs.declared.tally.Ratio.{Ratio};
+ghost use Rattle.moka_traces.specs.declared.tally.Tally.{Tally};
 
 use crate::tally::{Ratio, Tally, WHOLE};
 
@@ -46,7 +50,9 @@ pub struct Row {
 impl Row {
     /// The hit ratio under a policy, `None` if it was not played.
     pub fn ratio(&self, policy: Policy) -> Option<Ratio>
-        ensures { IfSome result (λ ratio. ratio.0 ≤ WHOLE) }
+        ensures share { option_map (λ (ratio : Ratio). ratio.0) result
+            ≡ option_map (λ (tally : Tally). share_of tally.hits tally.reads) (tally_of policy self.now) }
+        ensures part { IfSome result (λ ratio. ratio.0 ≤ WHOLE) }
     {
         let tally = match policy {
             Policy::Optimum => self.optimum?,

@@ -1,5 +1,5 @@
 //! The axes of a chart: how far ticks are from one another, and where a value lies.
-ghost use Rattle.std.specs.Prelude.{◌<◌, ◌≤◌};
+ghost use Rattle.std.specs.Prelude.{◌≡◌, ◌<◌, ◌≤◌, ◌+◌, ◌*◌, ◌/◌, max, min};
 
 use std::fmt;
 
@@ -45,7 +45,9 @@ pub fn tick_step(top: u64) -> u64
 /// The first tick at or above a value, which is where its axis ends.
 pub fn axis_end(top: u64, step: u64) -> u64
     requires { 0 < step }
-    ensures { 0 < result }
+    ensures some { 0 < result }
+    ensures above { top ≤ result }
+    ensures near { result ≤ top + step }
 {
     let ticks = (top / step).saturating_add(u64::from(top % step > 0));
     ticks.saturating_mul(step).max(step)
@@ -53,7 +55,8 @@ pub fn axis_end(top: u64, step: u64) -> u64
 
 /// How far along a length a value lies, on an axis from 0 to `end`.
 pub fn place(value: u64, end: u64, length: u64) -> u64
-    ensures { result ≤ length }
+    ensures share { result ≡ min (value * length / max end 1) length }
+    ensures within { result ≤ length }
 {
     let shares = u128::from(value).saturating_mul(u128::from(length));
     let along = shares / u128::from(end.max(1));

@@ -1,5 +1,6 @@
 //! How many reads there were, and how many of them found their key.
-ghost use Rattle.std.specs.Prelude.{◌≤◌};
+ghost use Rattle.std.specs.Prelude.{◌≡◌, ◌<◌, ◌≤◌, ◌+◌, ◌-◌, ◌^◌, if◌then◌else◌};
+ghost use Rattle.moka_traces.specs.Ratios.{share_of};
 
 use std::fmt;
 
@@ -9,19 +10,25 @@ pub const WHOLE: u64 = 10_000;
 /// Reads, and those of them that found their key.
 #[derive(Clone, Copy)]
 pub struct Tally {
-    hits: u64,
-    reads: u64,
+    pub hits: u64,
+    pub reads: u64,
     ghost within: { hits ≤ reads },
 }
 
 impl Tally {
     /// No read yet.
-    pub fn new() -> Self {
+    pub fn new() -> Self
+        ensures { (result.hits ≡ 0) × (result.reads ≡ 0) }
+    {
         Tally { hits: 0, reads: 0 }
     }
 
-    /// Counts a read.
-    pub fn count(&mut self, is_hit: bool) {
+    /// Counts a read, unless 2^64 - 1 are counted.
+    pub fn count(&mut self, is_hit: bool)
+        ensures read { self.old.reads < 2 ^ 64 - 1 → self.new.reads ≡ self.old.reads + 1 }
+        ensures hit { self.old.reads < 2 ^ 64 - 1 → self.new.hits ≡ self.old.hits + (if is_hit then 1 else 0) }
+        ensures full { self.old.reads ≡ 2 ^ 64 - 1 → self.new ≡ self.old }
+    {
         if self.reads == u64::MAX {
             return;
         }
@@ -33,7 +40,8 @@ impl Tally {
 
     /// The share of reads that found their key, in ten-thousandths.
     pub fn ratio(self) -> Ratio
-        ensures { result.0 ≤ WHOLE }
+        ensures share { result.0 ≡ share_of self.hits self.reads }
+        ensures part { result.0 ≤ WHOLE }
     {
         let parts = match self.hits.saturating_mul(WHOLE).checked_div(self.reads) {
             Some(parts) => parts.min(WHOLE),

@@ -1,10 +1,8 @@
-//! Tests of the callers in `moka_uses`, and nothing else.
+//! Tests of the callers in `moka_uses`, but for those that `moka_timed_uses_tests` runs, and nothing else.
 #![tactic(auto)]
 
 #[cfg(test)]
 mod batches;
-#[cfg(test)]
-mod borrowed;
 #[cfg(test)]
 mod caches;
 #[cfg(test)]
@@ -14,8 +12,6 @@ mod handled;
 #[cfg(test)]
 mod invalidated;
 #[cfg(test)]
-mod logins;
-#[cfg(test)]
 mod makers;
 #[cfg(test)]
 mod owners;
@@ -23,10 +19,6 @@ mod owners;
 mod profiles;
 #[cfg(test)]
 mod released;
-#[cfg(test)]
-mod restarted;
-#[cfg(test)]
-mod sessions;
 #[cfg(test)]
 mod shared;
 #[cfg(test)]

@@ -86,7 +86,8 @@ where
     /// Is notified of each value that leaves, with key and cause, after the lock of its shard is released. By default
     /// nobody is. It must not put back each value that leaves with `Size`: another leaves for it, so the call never
     /// ends. With a listener a call lets a batch of at most 384 entries leave in each step of a run, however many
-    /// are due, but for those with an expiry of their own, which leave at once; the calls that follow go on.
+    /// are due; the calls that follow go on. All whose own expiry has come leave at once, and so do all that make room
+    /// for an entry that was put in.
     ///
     /// ```
     /// # use ravulemis::sync::Cache;

@@ -205,8 +205,8 @@ fn left_at<K, V, X>(
     )
 }
 
-// A clone of the record's value, with one of its key if that is asked for; the record's first hash; and what a hit makes
-// of it.
+// A clone of the record's value, with one of its key if that is asked for; the record's first hash; and what a hit
+// makes of it.
 #[inline(always)]
 pub(super) fn entry_and_hit<K: Clone, V: Clone, X: Expiry<K, V>>(
     found: &RecordRef<'_, K, V>,
@@ -215,7 +215,8 @@ pub(super) fn entry_and_hit<K: Clone, V: Clone, X: Expiry<K, V>>(
 ) -> Result<(Entry<K, V>, u64, Hit), OutOfMemory>
     ensures { IfOk result (λ a. IsEntryCopy K.is_clone V.is_clone (entry_at need_key found.now) a.0
         × (a.1 ≡ found.now.hash)
-        × Touches X.read moments.entry.now.policy.now found.now moments.entry.now.now.0 a.2.read.0 a.2.expires a.2.is_renewed) }
+        × Touches X.read moments.entry.now.policy.now found.now moments.entry.now.now.0 a.2.read.0 a.2.expires
+        a.2.is_renewed) }
 {
     let Ok(value) = found.value().clone() else {
         return Err(OutOfMemory);

@@ -10,7 +10,7 @@ use std::fmt;
 /// What a closure of `compute_with` answers. moka: `ops::compute::Op`.
 #[derive(Debug)]
 pub enum Op<V> {
-    /// Leave the cache as it is.
+    /// Do no more than the look-up did.
     Nop,
     /// Put this value under the key.
     Put(V),

@@ -85,8 +85,8 @@ pub fn keeps_promises<
 {}
 
 /// From an empty cache that keeps the order of writing, since it has a time to live or supports predicates: if no
-/// insert is earlier than a write that is there, each whole run leaves nothing past its time to live, and nothing
-/// written before the invalidation of all.
+/// insert is earlier than a write that is there, each whole run that begins with every operation sent leaves nothing
+/// past its time to live, and nothing written before the invalidation of all.
 pub fn ages_out<
     K: Eq,
     V,
@@ -147,9 +147,9 @@ pub fn counts_removals<
 >()
 {}
 
-/// Over calls that are chains of steps (`Made`), times, policy and the like stay as they were built, and so does the
-/// capacity unless a call sets it; and none of the calls that `insert`, `get`, `remove`, `get_with` and the entry calls
-/// stand for does.
+/// Over calls that are chains of steps (`Made`), none of which sets the capacity, times, policy and the like stay as
+/// they were built, and so does the capacity; and none of the calls that `insert`, `get`, `remove`, `get_with` and the
+/// entry calls stand for sets it.
 pub fn keeps_limits<
     K: Eq,
     V,

@@ -93,8 +93,8 @@ impl<X, L, P, W> CacheConfig<X, L, P, W> {
     }
 
     /// The number of entries that room is made for at once, whatever their weights. It bounds nothing, and `build`
-    /// refuses a number for which there is no memory, or that needs a place of more than 32 bits. By default there is
-    /// room for none.
+    /// refuses a number for which there is no memory, or that needs a place of more than 32 bits. By default no room is
+    /// asked for.
     pub fn initial_capacity(mut self, number_of_entries: usize) -> Self
     {
         self.choices.initial_capacity = Some(number_of_entries);
@@ -152,8 +152,8 @@ impl<X, L, P, W> CacheConfig<X, L, P, W> {
         }
     }
 
-    /// Is notified of key, value and cause of each value that leaves, but for those that `remove_entry` hands out. By
-    /// default nobody is notified.
+    /// Is notified of key, value and cause of each value that leaves, but for those that `remove_entry`,
+    /// `remove_entry_with_own_hash` and `remove_by` of the engine hand out. By default nobody is notified.
     pub fn eviction_listener<M>(self, listener: M) -> CacheConfig<X, M, P, W>
     {
         CacheConfig {
@@ -190,8 +190,8 @@ impl<X, L, P, W> CacheConfig<X, L, P, W> {
         self
     }
 
-    /// The ticket of the first operation, at least 1. Tickets rise by 1, and a cache takes no more inserts before
-    /// 2^64 would be handed out. By default it is 1.
+    /// The ticket of the first operation, at least 1. Tickets rise by 1, and inserts are refused once the tickets below
+    /// 2^64 are too few to remove each record. By default it is 1.
     pub fn first_ticket(mut self, ticket: u64) -> Self
     {
         self.choices.first_ticket = ticket;

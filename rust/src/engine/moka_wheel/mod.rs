@@ -2,8 +2,8 @@
 //! Timers of records, in a wheel of eight levels.
 //!
 //! A change of one timer takes constant time. A move of the wheel's moment reads the bits of the buckets in use, the
-//! heads of those that it passes, and the timers there; each of these goes to a lower level, so that a timer moves at
-//! most eight times. Only `new` and `reserve` ask for memory.
+//! heads of those that it passes, and the timers of those that it reaches or passes; each of these goes to a lower
+//! level or to the due list, so that a timer moves at most eight times. Only `new` and `reserve` ask for memory.
 use crate::support::prelude::*;
 
 mod buckets;

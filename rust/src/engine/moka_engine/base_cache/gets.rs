@@ -157,8 +157,8 @@ fn left_at<K, V, X>(
     )
 }
 
-// A clone of the record's value, with one of its key if that is asked for; the record's first hash; and what a hit makes
-// of it.
+// A clone of the record's value, with one of its key if that is asked for; the record's first hash; and what a hit
+// makes of it.
 #[inline(always)]
 pub(super) fn entry_and_hit<K: Clone, V: Clone, X: Expiry<K, V>>(
     found: &RecordRef<'_, K, V>,

@@ -34,7 +34,8 @@ impl<
     /// - `repeats`: how often a run may go back to its queues. With one owner nothing is queued meanwhile, so it has no
     ///   effect.
     /// - `batch`: how many records each step of a pass looks at, but for the first. With 0 the passes remove only what
-    ///   is past its own expiry, and more is left if there is anything to test records by.
+    ///   is past its own expiry, and more is left if a time to live, a time to idle or an invalidation of all is set,
+    ///   or the capacity is exceeded.
     ///
     /// Once every operation was sent, a run leaves count and weight exactly the records', and one that was not cut
     /// short, with a `batch` of at least 1, also the weight within the capacity.

@@ -93,14 +93,20 @@ fn make_texts(alloc: Global, begin: &str, count: u64) -> Result<Vec<String>, All
     Ok(texts)
 }
 
-// A number's text: its digits, with these bytes in place of the first.
-fn text(alloc: Global, begin: &str, number: u64) -> Result<String, AllocError> {
+// The last sixteen digits of a number.
+fn digits(number: u64) -> [u8; 16] {
     let mut bytes = [b'0'; 16];
     let mut rest = number;
     for byte in bytes.iter_mut().rev() {
         *byte = b'0' + (rest % 10) as u8;
         rest /= 10;
     }
+    bytes
+}
+
+// A number's text: its digits, with these bytes in place of the first.
+fn text(alloc: Global, begin: &str, number: u64) -> Result<String, AllocError> {
+    let mut bytes = digits(number);
     for (to, from) in bytes.iter_mut().zip(begin.as_bytes()) {
         *to = *from;
     }

@@ -8,6 +8,9 @@ loop-index-init g c = record {
   built = none_built c.args.router.now c.args.max_capacity g.S.Clone.is_clone c.args.now.0 (λ index config. goal.F-post g c.args.make.now index config) c.new-segments.result.items c.new-segments.ensures.items;
 }
 
+pub make-requires : goal.make-requires
+make-requires g c = c.requires c.loop-index.index (subst (λ n. c.loop-index.index < n) c.count-index-end.ensures.same (omega (arith, c.loop-index-test.true)))
+
 pub loop-index-preserved : goal.loop-index-preserved
 loop-index-preserved g c = record {
   as_many = omega (arith, ap length c.in-Ok.ensures.items, length-append c.loop-index.segments.items (c.in_ok-segment.segment ∷ []), c.loop-index.invariant.as_many);
