@@ -205,19 +205,34 @@ def with_preludes(text):
     return head + uses + body
 
 
+def literals(text):
+    """The texts and characters in a source, in order."""
+    found, at = [], 0
+    while at < len(text):
+        kind, m = next((kind, m) for kind, form in FORMS if (m := form.match(text, at)))
+        found += [m.group()] if kind in ("string", "char") else []
+        at = m.end()
+    return found
+
+
 def erased(text, crate, homes):
     """A source as an ordinary module of Rust."""
     text = deleted(text)
+    before = literals(text)
     text = change("a tactic", r"^[ \t]*#!?\[tactic\([^\]]*\)\]\n", "", text)
     # Blank space and comments that spoke of what is gone.
     text = re.sub(r"[ \t]+$", "", text, flags=re.M)
     text = re.sub(r"\n[ \t\n]*\n([ \t]*\{)", r"\n\1", text)
     text = without_drops(text)
+    if re.search(r"//[^\n]*\n[ \t\n]*;", text):
+        raise Refused("a semicolon alone, behind a comment")
     text = re.sub(r"\n[ \t\n]*;", ";", text)
     text = re.sub(r"\n{3,}", "\n\n", text)
     text = renamed(text)
     text = renamed_tests(text)
     text = with_preludes(with_paths(text, crate, homes))
+    if literals(text) != before:
+        raise Refused("a text or a character was changed")
     code = re.sub(r"//.*", "", text)
     for word in LEFT_OVER:
         if re.search(r"(?<!\w)%s(?!\w)" % re.escape(word), code):

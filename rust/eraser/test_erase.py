@@ -107,6 +107,9 @@ class Refuses(unittest.TestCase):
             "impl Model for A { fn f() {} }\n",
             "fn f(rt: HostRuntime) {}\n",
             "impl Clone for A {\n    fn clone(&self) -> A {\n        A\n    }\n}\n",
+            'fn f() {\n    g("a.clone()");\n}\n',
+            'fn f() {\n    g("std::io::x");\n}\n',
+            "fn f() {\n    let x = a // as said\n    ;\n}\n",
         ]:
             with self.subTest(text), self.assertRaises(Refused):
                 erased(text, "moka_engine", HOMES)

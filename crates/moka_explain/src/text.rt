@@ -96,7 +96,8 @@ fn write_fates<W: Write>(
     policy: EvictionPolicy,
     hit: Option<u32>,
 ) -> Result<()> {
-    let has_older = has_any_stayed(fates);
+    // Of several writes one that came late may move an entry behind those that are let in.
+    let has_older = applied_in(fates, 0).writes == 1 && has_any_stayed(fates);
     for (before, after) in fates.before.iter().zip(fates.after.iter()) {
         let fate = FateText {
             before: *before,

@@ -6,7 +6,7 @@ mod play;
 mod read_through;
 
 use crate::play::play;
-use anyhow::Result;
+use anyhow::{Context, Result};
 use moka_traces::arguments::{HELP, Request};
 use moka_traces::chart::draw_chart;
 use moka_traces::row::Row;
@@ -45,7 +45,8 @@ fn report<R: Files + Print + AllocGlobal>(
         Some("-") => write_chart(rt.alloc(), io::writer(rt), title, rows)?,
         Some(path) => {
             print_table(rt, name, rows)?;
-            write_chart(rt.alloc(), File::create(rt, path)?, title, rows)?;
+            let file = File::create(rt, path).context(format_args!("creating {path}"))?;
+            write_chart(rt.alloc(), file, title, rows)?;
         }
     }
     Ok(())

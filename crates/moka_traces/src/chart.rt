@@ -126,7 +126,9 @@ fn draw_ratios<W: Write>(out: &mut W, scales: Scales) -> io::Result<()> {
 fn draw_capacities<W: Write>(out: &mut W, scales: Scales) -> io::Result<()> {
     let (top, bottom) = (TOP + HEIGHT, TOP + HEIGHT + 70);
     for tick in 0..=MOST_TICKS + 1 {
-        let capacity = scales.step.saturating_mul(tick);
+        let Some(capacity) = scales.step.checked_mul(tick) else {
+            break;
+        };
         if capacity <= scales.capacity {
             let x = scales.across(capacity);
             let (number, below) = (Grouped(capacity), bottom + 160);
