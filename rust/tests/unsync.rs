@@ -106,25 +106,31 @@ fn bounds_by_weight() {
     );
 }
 
+// How long entries last, so long that a machine with other work lets none expire between two calls; and longer.
+const LONG: Duration = Duration::from_secs(2);
+const LONGER: Duration = Duration::from_millis(2100);
+
 #[test]
 fn lets_entries_expire() {
-    let mut cache = Cache::builder().time_to_live(Duration::from_millis(30)).build();
+    let mut cache = Cache::builder().time_to_live(LONG).build();
     cache.insert(1, 1);
+    cache.insert(2, 2);
     assert_eq!(cache.get(&1), Some(1));
-    sleep(Duration::from_millis(40));
-    assert_eq!((cache.get(&1), cache.contains_key(&1)), (None, false));
+    sleep(LONGER);
+    assert!(!cache.contains_key(&1));
     assert_eq!(
         (cache.remove(&1), cache.remove(&1)),
         (Some(1), None),
         "it is handed out"
     );
+    assert_eq!(cache.get(&2), None);
 }
 
 #[test]
 fn a_slow_maker_takes_nothing_of_the_time_to_live() {
-    let mut cache = Cache::builder().time_to_live(Duration::from_millis(300)).build();
+    let mut cache = Cache::builder().time_to_live(LONG).build();
     let make = || {
-        sleep(Duration::from_millis(400));
+        sleep(LONGER);
         1
     };
     assert_eq!(cache.get_with(1, make), 1);
@@ -133,13 +139,13 @@ fn a_slow_maker_takes_nothing_of_the_time_to_live() {
 
 #[test]
 fn a_read_keeps_an_entry_from_idling_out() {
-    let mut cache = Cache::builder().time_to_idle(Duration::from_millis(300)).build();
+    let mut cache = Cache::builder().time_to_idle(LONG).build();
     cache.insert(1, 1);
     for _ in 0..4 {
-        sleep(Duration::from_millis(100));
+        sleep(Duration::from_millis(600));
         assert_eq!(cache.get(&1), Some(1));
     }
-    sleep(Duration::from_millis(400));
+    sleep(LONGER);
     assert_eq!(cache.get(&1), None);
 }
 
