@@ -39,9 +39,9 @@ type Cache<K, V> =
 // If no entry can expire the clock is read once in so many calls: a moment then says only when a run is due, and a
 // reading makes an insert a quarter to a half dearer.
 const CALLS_A_READING: u32 = 64;
-// A run of maintenance asks predicates about so many entries, and one of a single pass lets so many expired ones leave.
+// A run of maintenance asks predicates about so many entries, and each step of a single pass lets so many leave.
 const ENTRIES_A_RUN: u64 = 384;
-// A visit makes so many runs at most.
+// A visit makes so many runs of a single pass at most.
 const RUNS_A_VISIT: u32 = 16;
 // A call makes a run if the last one was so many nanoseconds ago. A shard that had no call for so long has one due.
 const QUIET: u64 = 300_000_000;
@@ -218,13 +218,25 @@ impl<K: Eq + Hash + 'static, V> Shard<K, V> {
             return;
         }
         self.now = now;
-        for _ in 0..RUNS_A_VISIT {
-            let before = self.cache.removals().expired;
+        let runs = if self.has_single_passes() { RUNS_A_VISIT } else { 1 };
+        for _ in 0..runs {
+            let before = self.left();
             self.run_what_is_due(now);
-            if self.cache.removals().expired - before < ENTRIES_A_RUN {
+            if self.left() - before < ENTRIES_A_RUN {
                 break;
             }
         }
+    }
+
+    // Whether the runs that calls start make a single pass (`housekeeping`).
+    fn has_single_passes(&self) -> bool {
+        self.settings.listener.is_some()
+    }
+
+    // How many entries have left by runs of maintenance, or were taken out.
+    fn left(&self) -> u64 {
+        let left = self.cache.removals();
+        left.expired.saturating_add(left.explicit).saturating_add(left.size)
     }
 
     // Makes the run that is due at a moment, if one is. The cache has no call for it alone. This one finds nothing, at

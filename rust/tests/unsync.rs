@@ -114,16 +114,18 @@ const LONGER: Duration = Duration::from_millis(2100);
 fn lets_entries_expire() {
     let mut cache = Cache::builder().time_to_live(LONG).build();
     cache.insert(1, 1);
-    cache.insert(2, 2);
     assert_eq!(cache.get(&1), Some(1));
     sleep(LONGER);
+    assert_eq!((cache.contains_key(&1), cache.get(&1)), (false, None));
+}
+
+#[test]
+fn hands_out_what_has_expired() {
+    let mut cache = Cache::builder().time_to_live(LONG).build();
+    cache.insert(1, 1);
+    sleep(LONGER);
     assert!(!cache.contains_key(&1));
-    assert_eq!(
-        (cache.remove(&1), cache.remove(&1)),
-        (Some(1), None),
-        "it is handed out"
-    );
-    assert_eq!(cache.get(&2), None);
+    assert_eq!((cache.remove(&1), cache.remove(&1)), (Some(1), None));
 }
 
 #[test]
