@@ -7,7 +7,6 @@ pub use moka_calls::laws::{
     joins_registrations, keeps_limits, keeps_promises, made_anytime, makes_one_step,
 };
 use moka_parts::closures::{PredicateFn, Weigher};
-use moka_parts::policy::Expiry;
 
 /// What was put back as it was listed answers as before: whenever one of the two records is visible the other is, if
 /// the times are the same, and the second cache has no predicates and no invalidation of all.

@@ -9,13 +9,11 @@ ghost use Rattle.moka_calls.specs.Synchronous.{Makes, hears_clones, meaning_of};
 use crate::cache::Cache;
 pub use moka_calls::many::{GetManyRefused, InsertManyRefused, InvalidateManyRefused};
 use moka_parts::closures::{PredicateFn, Weigher};
-use moka_parts::error::{InsertRefused, OutOfMemory};
 use moka_parts::housekeeper::Clock;
 use moka_parts::notification::Listener;
 use moka_parts::policy::{Expiry, Instant};
 use std::alloc::Global;
 use std::hash::{BuildHasher, Hash};
-use std::vec::IntoIter;
 
 impl<
     K: Eq + Hash,

@@ -1,5 +1,5 @@
 -- A run of maintenance of the cache, from what applying the queues and the passes make of its inner part.
-use Rattle.std.proofs.Common.{◌≡◌, refl, ℕ, Bool, true, false, List, [], length, min, Option, Some, None, is_some, ap, sym, subst, ◌∙◌, if◌then◌else◌}
+use Rattle.std.proofs.Common.{◌≡◌, refl, ℕ, Bool, true, false, List, [], length, min, Option, Some, None, is_some, inl, inr, ap, sym, subst, ◌∙◌, if◌then◌else◌}
 use Rattle.moka_parts.specs.declared.notification.RemovalCause.{RemovalCause}
 use Rattle.moka_parts.specs.declared.policy.Instant.{Instant}
 use Rattle.moka_parts.specs.declared.records.Registered.{Registered}
@@ -22,13 +22,13 @@ use Rattle.moka_parts.proofs.Options.{none_by_test}
 use Rattle.moka_parts.proofs.RunReturns.{run_returns, disabled_promised}
 use Rattle.moka_maintenance.specs.declared.sweep.Tests.{Tests}
 use Rattle.moka_maintenance.specs.Steps.{contents_with, stock_in}
-use Rattle.moka_maintenance.specs.Timers.{HasNoneDue, KeepsTimers}
+use Rattle.moka_maintenance.specs.Timers.{AreOnTime, HasNoneDue, KeepsTimers}
 use Rattle.moka_maintenance.proofs.Timing.{keeps-on, lasts-timed, still-timed}
 use Rattle.moka_maintenance.specs.Sweeps.{tests_in}
 use Rattle.moka_maintenance.specs.Queues.{ArePrepared}
 use Rattle.moka_maintenance.specs.Passes.{IsRan}
 use Rattle.moka_maintenance.proofs.Scanned.{nothing_kept}
-use Rattle.moka_maintenance.proofs.Promises.{IsSimple, run_promised, run_keeps_listening, run_leaves_lasting, run_leaves_valid, run_leaves_exact}
+use Rattle.moka_maintenance.proofs.Promises.{IsSimple, run_promised, queues_leave_lasting, run_keeps_listening, run_leaves_lasting, run_leaves_valid, run_leaves_exact}
 use Rattle.moka_inner.specs.Interior.{Interior}
 use Rattle.moka_engine.specs.BaseCache.{IsCache, IsWhole}
 use Rattle.moka_engine.specs.Makes.{Takes}
@@ -42,7 +42,7 @@ module _ {K V X L P W C S : Type 0} {tells : L → K → V → RemovalCause → 
     {has_weigher : Bool} (weighs : has_weigher ≡ is_some old.state.settings.weigher) (applied_with : ArePrepared tells old.state.capacity old.state.settings.policy i.kept.ordered has_weigher (after_reads (contents_with i.sketch i.kept) i.reads) (contents_with a.sketch a.kept) i.kept.written a.kept.written i.writes old.listener m)
     (applied_rest : a ≡ record i { kept = a.kept; sketch = a.sketch; writes = []; reads = []; operation_room = a.operation_room }) (kept_first : KeepsTimers i.kept a.kept) (kept_then : KeepsTimers a.kept j.kept)
     {q : Tests} (terms : Terms) (by_state : tests_in q ≡ tests_of old.state terms.now) {limit : Option ℕ} (limited : limit ≡ (if old.state.settings.listening then terms.limit else None))
-    {says : P → K → V → Bool → Type 0} {left_predicates : List (Registered P)} {clock clock_after : C} {passes : ℕ} {left : Bool} (ran_by : IsRan tells says q reads limit terms.batch a.kept.ordered old.state.predicates left_predicates (stock_in a.kept) (stock_in j.kept) m n clock clock_after passes left)
+    {says : P → K → V → Bool → Type 0} {left_predicates : List (Registered P)} {clock clock_after : C} {passes : ℕ} {left : Bool} (ran_by : IsRan tells says q reads limit terms.batch a.kept.ordered (AreOnTime a.kept) old.state.predicates left_predicates (stock_in a.kept) (stock_in j.kept) m n clock clock_after passes left)
     (ran_rest : j ≡ record a { kept = j.kept; operation_room = j.operation_room })
     (count_after weight_after : ℕ) (counted : count_after ≡ length j.kept.access) (weighed : weight_after ≡ min (total_weight j.kept.access) greatest) where
   -- the states before and after the run
@@ -58,8 +58,8 @@ module _ {K V X L P W C S : Type 0} {tells : L → K → V → RemovalCause → 
   enabled : is_disabled s.capacity ≡ false
   enabled = ap (λ (c : Engine K V S X L P W). is_disabled c.state.capacity) is ∙ enabled_now
 
-  ran : IsRan tells says q reads limit terms.batch i.kept.ordered s.predicates left_predicates (stock_in a.kept) (stock_in j.kept) m n clock clock_after passes left
-  ran = subst (λ b. IsRan tells says q reads limit terms.batch b s.predicates left_predicates (stock_in a.kept) (stock_in j.kept) m n clock clock_after passes left) kept_first.ordered ran_by
+  ran : IsRan tells says q reads limit terms.batch i.kept.ordered (AreOnTime a.kept) s.predicates left_predicates (stock_in a.kept) (stock_in j.kept) m n clock clock_after passes left
+  ran = subst (λ b. IsRan tells says q reads limit terms.batch b (AreOnTime a.kept) s.predicates left_predicates (stock_in a.kept) (stock_in j.kept) m n clock clock_after passes left) kept_first.ordered ran_by
 
   applied : ArePrepared tells s.capacity s.settings.policy i.kept.ordered (is_some s.settings.weigher) (after_reads (contents_with i.sketch i.kept) i.reads) (contents_with a.sketch a.kept) i.kept.written a.kept.written i.writes old.listener m
   applied = subst (λ b. ArePrepared tells s.capacity s.settings.policy i.kept.ordered b (after_reads (contents_with i.sketch i.kept) i.reads) (contents_with a.sketch a.kept) i.kept.written a.kept.written i.writes old.listener m) weighs applied_with
@@ -100,6 +100,14 @@ module _ {K V X L P W C S : Type 0} {tells : L → K → V → RemovalCause → 
       let all : IsAllSent s = ap (λ (c : Engine K V S X L P W). c.state.outstanding) (held ∙ is) ∙ sent in
       subst IsExact (sym ends) (run_leaves_exact s simple terms by_state h.store.ordered refl applied limited refl sketched ran all)
 
+  -- where no hit renews an expiry, timers are on time before the passes
+  on_time : NeverRenewsOnRead read s → AreOnTime a.kept
+  on_time never = go (is_some s.settings.expiry) refl
+    where
+      go : (b : Bool) → is_some s.settings.expiry ≡ b → AreOnTime a.kept
+      go true set = let timed = h.store.timed ∙ set in inl (kept_first.timed ∙ timed, still-timed i.kept a.kept timed kept_first (h.store.timers never timed))
+      go false unset = inr (queues_leave_lasting s simple terms by_state h.store.ordered refl applied limited refl sketched ran (cache.served.unexpiring (none_by_test s.settings.expiry unset)))
+
   -- where no hit renews an expiry, no settled member is left whose expiry has come
   lasts : HasNoneDue q.now.0 j.kept → NeverRenewsOnRead read s → (k : ℕ) (r : Record K V) → get j.kept.records k ≡ Some r → is_member k j.kept.access ≡ true → is_applied r ≡ true → is_expired r terms.now ≡ false
   lasts none never k r there is_in settled = go (is_some s.settings.expiry) refl
@@ -117,7 +125,7 @@ module _ {K V X L P W C S : Type 0} {tells : L → K → V → RemovalCause → 
   -- the run keeps its promises
   pub cache_runs : HasNoneDue q.now.0 j.kept → Takes says read tells (λ Runs s. RunStep Runs s terms left) now (record (cache_with old j) { state = t; listener = n; passes = passes }) (λ e. Leads reads clock e.readings clock_after)
   cache_runs none =
-      run_returns (held ∙ is) j.kept.written j.kept.room (run_promised s simple terms by_state h.store.ordered refl applied limited refl sketched ran read (lasts none) cache.listens)
+      run_returns (held ∙ is) j.kept.written j.kept.room (run_promised s simple terms by_state h.store.ordered refl applied limited refl sketched ran read on_time (lasts none) cache.listens)
       (ap (λ (u : State K V X P W). record (cache_with old j) { state = u; listener = n; passes = passes }) ends ∙ ap (λ (x : S). record (cache_with old j) { hasher = x; state = with_contents s (contents_with j.sketch j.kept) left_predicates; listener = n; passes = passes }) keeps.hasher)
 
 -- ---- a disabled cache

@@ -115,9 +115,3 @@ module _ {K V X P : Type 0} (says : P → K → V → Bool → Type 0) (c : Scen
   ListsNext None d = ArePassed c.members × (d ≡ record c { members = [] })
   ListsNext (Some item) d = (hidden : List Member) × (a : Member) × (c.members ≡ hidden ++ a ∷ d.members)
       × (d ≡ record c { members = d.members }) × ArePassed hidden × IsListed a item
-
-  -- all entries that are listed of these members: those of the visible records, in order
-  abbrev pub ListsAll : List Member → List (Seen K V) → Type 0
-  ListsAll [] items = items ≡ []
-  ListsAll (a ∷ members) items = (IsPassed a × ListsAll members items)
-      ⊎ ((item : Seen K V) × (rest : List (Seen K V)) × (items ≡ item ∷ rest) × IsListed a item × ListsAll members rest)

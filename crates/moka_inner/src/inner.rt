@@ -10,7 +10,6 @@ ghost use Rattle.moka_parts.specs.Records.{record_of_key, total_weight, with_rec
 ghost use Rattle.moka_parts.specs.declared.error.InsertError.TheVariants.{NumbersUsedUp};
 ghost use Rattle.moka_parts.specs.declared.records.Operation.{Operation};
 ghost use Rattle.moka_parts.specs.declared.records.Operation.TheVariants.{Upsert, Removal};
-ghost use Rattle.moka_parts.specs.declared.records.ReadOperation.TheVariants.{Hit};
 ghost use Rattle.moka_parts.specs.declared.records.Record.{Record};
 ghost use Rattle.moka_store.specs.Hashing.{IsIndexHash};
 ghost use Rattle.moka_store.specs.Store.{AreKeysOf, ChangesRecord, ExpiresAsBefore, IsHandle};
@@ -18,9 +17,8 @@ ghost use Rattle.moka_store.specs.Updates.{updated};
 ghost use Rattle.moka_maintenance.specs.Passes.{IsRan};
 ghost use Rattle.moka_maintenance.specs.Queues.{ArePrepared};
 ghost use Rattle.moka_maintenance.specs.Steps.{contents_with, stock_in};
-ghost use Rattle.moka_maintenance.specs.Timers.{HasNoneDue, KeepsTimers};
+ghost use Rattle.moka_maintenance.specs.Timers.{AreOnTime, HasNoneDue, KeepsTimers};
 ghost use Rattle.moka_inner.specs.Interior.{IsReadLocated, first_record, handing_out_inside, nothing_inside};
-ghost use Rattle.moka_inner.specs.ReadNumber.{IsReadNumber};
 
 use circular_buffer::HeapCircularBuffer;
 use moka_maintenance::admission::{apply_reads, apply_writes};
@@ -447,7 +445,7 @@ impl<K: Eq + Hash, V, S: BuildHasher> Inner<K, V, S> {
         V: Drop,
         P: Drop,
         ensures ran { IsRan L.tells P.says terms.tests C.reads (option_map as_nanos terms.limit)
-            terms.batch self.old.kept.ordered
+            terms.batch self.old.kept.ordered (AreOnTime self.old.kept)
             invalidator.old invalidator.new (stock_in self.old.kept) (stock_in self.new.kept) notifier.old notifier.new
             clock.old clock.new result.passes result.has_more }
         ensures none { HasNoneDue terms.tests.now.0 self.new.kept }

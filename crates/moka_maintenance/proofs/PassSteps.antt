@@ -9,9 +9,13 @@ use Rattle.std.specs.Option.{option_map}
 use Rattle.moka_parts.specs.declared.notification.RemovalCause.{RemovalCause}
 use Rattle.moka_parts.specs.Time.{deadline, has_passed, is_before, moment_of}
 use Rattle.moka_parts.specs.declared.policy.Instant.{Instant}
-use Rattle.moka_parts.specs.Visibility.{SomeCovers, NoneCovers, is_read_before, is_written_before}
+use Rattle.moka_parts.specs.declared.records.Record.{Record}
+use Rattle.moka_parts.specs.Records.{is_applied, is_member}
+use Rattle.moka_parts.specs.State.{Contents}
+use Rattle.moka_parts.specs.Order.{written_after_choices}
+use Rattle.moka_parts.specs.Visibility.{SomeCovers, NoneCovers, is_expired, is_read_before, is_written_before}
 use Rattle.moka_parts.specs.Maintenance.{Choice, Removes, MovesToBack, Drops, is_over, is_past_read, is_past_write, after_choices}
-use Rattle.moka_parts.specs.Grounds.{EndsScan, ByTimer, ByWrite, ByRead, ByPredicate, BySurplus, FollowsGrounds, grounds_of_pass, Ground, EndsStep, MayTake, is_batched}
+use Rattle.moka_parts.specs.Grounds.{EndsScan, ByTimer, ByWrite, ByRead, ByPredicate, BySurplus, FollowsGrounds, grounds_of_pass, Ground, EndsStep, is_batched}
 use Rattle.moka_parts.specs.Bounds.{removed_by}
 use Rattle.moka_parts.specs.declared.records.Registered.{Registered}
 use Rattle.moka_store.specs.Store.{Kept}
@@ -24,7 +28,7 @@ use Rattle.moka_maintenance.specs.Steps.{Stock, MayLeave, MayRun, MayAll, AreAll
 use Rattle.moka_maintenance.specs.Sweeps.{tests_in, ground_of, is_taken, sweeps_reads, sweeps_writes, HasStopped, IsAtRest, IsDone, AreAllTurns, MayTurn, MayExpire, IsSwept, ExpiresDue}
 use Rattle.moka_maintenance.specs.Passes.{IsPass, HasSwept}
 use Rattle.moka_maintenance.proofs.Fronts.{within-not_over}
-use Rattle.moka_maintenance.proofs.Grounded.{ends-swept, expiry_takes, grounds-on, grounds-one, scan_takes, take_runs, turn_takes, told_by_tests}
+use Rattle.moka_maintenance.proofs.Grounded.{Takes, ends-swept, expiry_takes, grounds-on, grounds-one, scan_takes, take_runs, turn_takes, told_by_tests}
 use Rattle.moka_maintenance.proofs.Scanned.{dropped-later, both_more}
 use Rattle.moka_maintenance.proofs.Stepped.{may-also, members-steps, none-steps, removed-on, removed-few, run_leaves, stepped-none, stepped-on, stepped-also, shorter, still_there}
 
@@ -122,31 +126,35 @@ both_make_room xs ys all = and_parts (list_all makes_room xs) (list_all makes_ro
 
 -- ---- a step of a pass, and steps one after the other
 
+-- no settled member is left whose own expiry has come, where timers are on time
+abbrev pub NoneLasts : {K V : Type 0} → Type 0 → Tests → Contents K V → Type 0
+NoneLasts {K} {V} OnTime q c = OnTime → (n : ℕ) (r : Record K V) → get c.records n ≡ Some r → is_member n c.access ≡ true → is_applied r ≡ true → is_expired r q.now.0 ≡ false
+
 -- steps on these grounds, which make no room: of at most so many turns beside timers, and where more is left a batch was
 -- removed
-pub record IsStage {K V L P : Type 0} (tells : L → K → V → RemovalCause → L → Type 0) (says : P → K → V → Bool → Type 0) (ps : List (Registered P)) (q : Tests) (batch : ℕ) (ordered : Bool) (grounds : List Ground) (turns : ℕ) (a b : Stock K V) (l m : Option L) (removed : ℕ) (left : Bool) : Type 0 where
+pub record IsStage {K V L P : Type 0} (tells : L → K → V → RemovalCause → L → Type 0) (says : P → K → V → Bool → Type 0) (ps : List (Registered P)) (q : Tests) (batch : ℕ) (ordered : Bool) (OnTime : Type 0) (grounds : List Ground) (turns : ℕ) (a b : Stock K V) (l m : Option L) (removed : ℕ) (left : Bool) : Type 0 where
   pub by : IsStepped tells (MayRun says ps (tests_in q)) a b l m
-  pub in_order : FollowsGrounds (SomeCovers says ps) (tests_in q) (NoneCovers says ps) ordered batch grounds a.contents by.steps
+  pub in_order : FollowsGrounds (SomeCovers says ps) (tests_in q) (NoneCovers says ps) OnTime ordered batch grounds a.contents a.written by.steps
   pub count : removed ≡ length (removed_by by.steps)
   pub many : length by.steps + length b.contents.access ≤ turns + length a.contents.access
   pub full : left ≡ true → batch ≤ removed
   pub none : list_all makes_room by.steps ≡ true → by.steps ≡ []
 
-module _ {K V L P : Type 0} (tells : L → K → V → RemovalCause → L → Type 0) (says : P → K → V → Bool → Type 0) (ps : List (Registered P)) (q : Tests) (batch : ℕ) (ordered : Bool) where
-  module _ (May : Stock K V → Choice → Type 0) (ground : Ground) (takes : (c : Stock K V) (x : Choice) → May c x → MayTake (SomeCovers says ps) (tests_in q) ground c.contents x) where
+module _ {K V L P : Type 0} (tells : L → K → V → RemovalCause → L → Type 0) (says : P → K → V → Bool → Type 0) (ps : List (Registered P)) (q : Tests) (batch : ℕ) (ordered : Bool) (OnTime : Type 0) where
+  module _ (May : Stock K V → Choice → Type 0) (ground : Ground) (takes : (c : Stock K V) (x : Choice) → May c x → Takes says ps q ordered ground c x) where
     runs : (c : Stock K V) (x : Choice) → May c x → MayRun says ps (tests_in q) c x
-    runs c x may = take_runs says ps (tests_in q) ground c x (takes c x may)
+    runs c x may = take_runs says ps (tests_in q) ground c x (takes c x may).1
 
     stage_shorter : (a b : Stock K V) (l m : Option L) (h : IsStepped tells May a b l m) → length b.contents.access + length (removed_by h.steps) ≤ length a.contents.access
     stage_shorter = shorter tells May (λ c x may. run_leaves (tests_in q) says ps c x (runs c x may))
 
-    module _ (timely : (c : Stock K V) (x : Choice) → May c x → makes_room x ≡ false) (a b : Stock K V) (l m : Option L) (h : IsStepped tells May a b l m) (few : is_batched ground ≡ true → length h.steps ≤ batch) (ends : EndsStep (NoneCovers says ps) ordered (tests_in q) ground batch (length h.steps) (after_choices a.contents h.steps)) where
+    module _ (timely : (c : Stock K V) (x : Choice) → May c x → makes_room x ≡ false) (a b : Stock K V) (l m : Option L) (h : IsStepped tells May a b l m) (few : is_batched ground ≡ true → length h.steps ≤ batch) (ends : EndsStep (NoneCovers says ps) OnTime ordered (tests_in q) ground batch (length h.steps) (after_choices a.contents h.steps) (written_after_choices a.written h.steps)) where
       -- of one ground
-      stage-one : (removed turns : ℕ) (left : Bool) → removed ≡ length (removed_by h.steps) → length h.steps + length b.contents.access ≤ turns + length a.contents.access → (left ≡ true → batch ≤ removed) → IsStage tells says ps q batch ordered (ground ∷ []) turns a b l m removed left
+      stage-one : (removed turns : ℕ) (left : Bool) → removed ≡ length (removed_by h.steps) → length h.steps + length b.contents.access ≤ turns + length a.contents.access → (left ≡ true → batch ≤ removed) → IsStage tells says ps q batch ordered OnTime (ground ∷ []) turns a b l m removed left
       unfolding stepped-also
       stage-one removed turns left count many full = record {
         by = stepped-also tells May (MayRun says ps (tests_in q)) runs a b l m h;
-        in_order = grounds-one (SomeCovers says ps) (tests_in q) (NoneCovers says ps) ordered batch May ground takes a h.steps h.may few ends;
+        in_order = grounds-one (SomeCovers says ps) (tests_in q) (NoneCovers says ps) OnTime ordered batch May ground takes a h.steps h.may few ends;
         count = count;
         many = many;
         full = full;
@@ -154,36 +162,36 @@ module _ {K V L P : Type 0} (tells : L → K → V → RemovalCause → L → Ty
       }
 
       -- of removals alone
-      stage-removals : ((c : Stock K V) (n : ℕ) → May c (MovesToBack n) → ⊥) → ((c : Stock K V) (i : ℕ) → May c (Drops i) → ⊥) → IsStage tells says ps q batch ordered (ground ∷ []) 0 a b l m (length (removed_by h.steps)) false
+      stage-removals : ((c : Stock K V) (n : ℕ) → May c (MovesToBack n) → ⊥) → ((c : Stock K V) (i : ℕ) → May c (Drops i) → ⊥) → IsStage tells says ps q batch ordered OnTime (ground ∷ []) 0 a b l m (length (removed_by h.steps)) false
       stage-removals moves drops =
           stage-one (length (removed_by h.steps)) 0 false refl (let less = stage_shorter a b l m h in let all = all_removals May moves drops a h.steps h.may in omega arith)
           (λ is. absurd (true≢false (sym is)))
 
   -- by timers
-  stage-due : (a b : Stock K V) (l m : Option L) (removed : ℕ) → ExpiresDue tells q a b l m removed → IsStage tells says ps q batch ordered (ByTimer ∷ []) 0 a b l m removed false
-  stage-due a b l m removed h =
-      subst (λ n. IsStage tells says ps q batch ordered (ByTimer ∷ []) 0 a b l m n false) (sym h.count)
-      (stage-removals (MayExpire q) ByTimer (expiry_takes says ps q) (timely_expiry q) a b l m h.by (λ e. absurd (true≢false (sym e))) tt (λ c n may. true≢false (sym may.0)) (λ c i none. none))
+  stage-due : (a b : Stock K V) (l m : Option L) (removed : ℕ) → ExpiresDue tells q a b l m removed → NoneLasts OnTime q b.contents → IsStage tells says ps q batch ordered OnTime (ByTimer ∷ []) 0 a b l m removed false
+  stage-due a b l m removed h none =
+      subst (λ n. IsStage tells says ps q batch ordered OnTime (ByTimer ∷ []) 0 a b l m n false) (sym h.count)
+      (stage-removals (MayExpire q) ByTimer (expiry_takes says ps q ordered) (timely_expiry q) a b l m h.by (λ e. absurd (true≢false (sym e))) (subst (λ (s : Stock K V). NoneLasts OnTime q s.contents) h.by.led none) (λ c n may. true≢false (sym may.0)) (λ c i none. none))
 
   -- of the scan
-  stage-scanned : (a b : Stock K V) (l m : Option L) (h : IsStepped tells (MayScan says ps) a b l m) → length h.steps ≤ batch → (ordered ≡ true → EndsScan (NoneCovers says ps) batch (length h.steps) b.contents) → IsStage tells says ps q batch ordered (ByPredicate ∷ []) 0 a b l m (length (removed_by h.steps)) false
+  stage-scanned : (a b : Stock K V) (l m : Option L) (h : IsStepped tells (MayScan says ps) a b l m) → length h.steps ≤ batch → (ordered ≡ true → EndsScan (NoneCovers says ps) batch (length h.steps) b.contents) → IsStage tells says ps q batch ordered OnTime (ByPredicate ∷ []) 0 a b l m (length (removed_by h.steps)) false
   stage-scanned a b l m h few ends =
-      stage-removals (MayScan says ps) ByPredicate (scan_takes says ps (tests_in q)) (timely_scan says ps) a b l m h (λ _. few)
+      stage-removals (MayScan says ps) ByPredicate (scan_takes says ps q ordered) (timely_scan says ps) a b l m h (λ _. few)
       (λ is. subst (λ (c : Stock K V). EndsScan (NoneCovers says ps) batch (length h.steps) c.contents) h.led (ends is)) (λ c n none. none) (λ c i none. none)
 
   -- of a sweep by moments
-  stage-swept : (sweep : Sweep) → is_by_moment sweep ≡ true → (a b : Stock K V) (l m : Option L) (removed : ℕ) (left : Bool) → IsSwept tells q sweep batch a b l m removed left → IsStage tells says ps q batch ordered (ground_of sweep ∷ []) batch a b l m removed left
+  stage-swept : (sweep : Sweep) → is_by_moment sweep ≡ true → (a b : Stock K V) (l m : Option L) (removed : ℕ) (left : Bool) → IsSwept tells q sweep batch a b l m removed left → IsStage tells says ps q batch ordered OnTime (ground_of sweep ∷ []) batch a b l m removed left
   stage-swept sweep timely a b l m removed left h =
-      stage-one (MayTurn q sweep) (ground_of sweep) (turn_takes says ps q sweep) (timely_turn q sweep timely) a b l m h.by (λ _. h.few) (ends-swept (NoneCovers says ps) ordered q sweep batch a b h.by.steps h.by.led (swept-done tells q sweep batch a b l m removed left h)) removed batch left h.count
-      (let less = stage_shorter (MayTurn q sweep) (ground_of sweep) (turn_takes says ps q sweep) a b l m h.by in let few = h.few in omega arith)
+      stage-one (MayTurn q sweep) (ground_of sweep) (turn_takes says ps q ordered sweep) (timely_turn q sweep timely) a b l m h.by (λ _. h.few) (ends-swept (NoneCovers says ps) OnTime ordered q sweep batch a b h.by.steps h.by.led (swept-done tells q sweep batch a b l m removed left h)) removed batch left h.count
+      (let less = stage_shorter (MayTurn q sweep) (ground_of sweep) (turn_takes says ps q ordered sweep) a b l m h.by in let few = h.few in omega arith)
       (λ is. (let used = h.full is in omega arith))
 
   -- some, and then others
-  stage-on : (gs hs : List Ground) (j k : ℕ) (a b c : Stock K V) (l m n : Option L) (r s : ℕ) (x y : Bool) → IsStage tells says ps q batch ordered gs j a b l m r x → IsStage tells says ps q batch ordered hs k b c m n s y → IsStage tells says ps q batch ordered (gs ++ hs) (j + k) a c l n (r + s) (x || y)
+  stage-on : (gs hs : List Ground) (j k : ℕ) (a b c : Stock K V) (l m n : Option L) (r s : ℕ) (x y : Bool) → IsStage tells says ps q batch ordered OnTime gs j a b l m r x → IsStage tells says ps q batch ordered OnTime hs k b c m n s y → IsStage tells says ps q batch ordered OnTime (gs ++ hs) (j + k) a c l n (r + s) (x || y)
   unfolding stepped-on
   stage-on gs hs j k a b c l m n r s x y first second = record {
     by = stepped-on tells (MayRun says ps (tests_in q)) a b c l m n first.by second.by;
-    in_order = grounds-on (SomeCovers says ps) (tests_in q) (NoneCovers says ps) ordered batch gs hs a b first.by.steps second.by.steps first.by.led first.in_order second.in_order;
+    in_order = grounds-on (SomeCovers says ps) (tests_in q) (NoneCovers says ps) OnTime ordered batch gs hs a b first.by.steps second.by.steps first.by.led first.in_order second.in_order;
     count = (let e = first.count in let f = second.count in let both = removed-on first.by.steps second.by.steps in omega arith);
     many = (let few = first.many in let fewer = second.many in let both = length-append first.by.steps second.by.steps in omega arith);
     full = λ is. elim (or_cases x y is) [ inl e ↦ (let used = first.full e in omega arith) | inr e ↦ (let used = second.full e in omega arith) ];
@@ -206,8 +214,8 @@ idle_sweeps false true invalid over = refl
 idle_sweeps false false true over = refl
 idle_sweeps false false false over = refl
 
-module _ {K V L P S : Type 0} (tells : L → K → V → RemovalCause → L → Type 0) (says : P → K → V → Bool → Type 0) (ps qs : List (Registered P)) (q : Tests) (batch : ℕ) (a b c : Stock K V) (d0 d1 : Kept K V S) (e : Stock K V) (l m n o u p : Option L) (due wrote read room : ℕ) (x y z scan : Bool)
-    (by_timers : ExpiresDue tells q a b l m due) (by_write : IsSwept tells q Written batch b c m n wrote x) (by_read : IsSwept tells q Read batch c (stock_in d0) n o read y) (by_scan : IsScanned tells says ps batch d0 d1 qs o u scan) (surplus : IsSwept tells q Surplus batch (stock_in d1) e u p room z) where
+module _ {K V L P S : Type 0} (tells : L → K → V → RemovalCause → L → Type 0) (says : P → K → V → Bool → Type 0) (ps qs : List (Registered P)) (q : Tests) (batch : ℕ) (a b c : Stock K V) (d0 d1 : Kept K V S) (e : Stock K V) (l m n o u p : Option L) (due wrote read room : ℕ) (x y z scan : Bool) (OnTime : Type 0)
+    (by_timers : ExpiresDue tells q a b l m due) (none_lasts : NoneLasts OnTime q b.contents) (by_write : IsSwept tells q Written batch b c m n wrote x) (by_read : IsSwept tells q Read batch c (stock_in d0) n o read y) (by_scan : IsScanned tells says ps batch d0 d1 qs o u scan) (surplus : IsSwept tells q Surplus batch (stock_in d1) e u p room z) where
   abbrev d : Stock K V
   d = stock_in d0
 
@@ -220,28 +228,28 @@ module _ {K V L P S : Type 0} (tells : L → K → V → RemovalCause → L → 
   scan_few : length by_scan.by.steps ≤ batch
   scan_few = let few = by_scan.few in let most = by_scan.goes.most in omega arith
 
-  first : IsStage tells says ps q batch d0.ordered (ByTimer ∷ ByWrite ∷ []) (0 + batch) a c l n (due + wrote) (false || x)
-  first = stage-on tells says ps q batch d0.ordered (ByTimer ∷ []) (ByWrite ∷ []) 0 batch a b c l m n due wrote false x (stage-due tells says ps q batch d0.ordered a b l m due by_timers) (stage-swept tells says ps q batch d0.ordered Written refl b c m n wrote x by_write)
+  first : IsStage tells says ps q batch d0.ordered OnTime (ByTimer ∷ ByWrite ∷ []) (0 + batch) a c l n (due + wrote) (false || x)
+  first = stage-on tells says ps q batch d0.ordered OnTime (ByTimer ∷ []) (ByWrite ∷ []) 0 batch a b c l m n due wrote false x (stage-due tells says ps q batch d0.ordered OnTime a b l m due by_timers none_lasts) (stage-swept tells says ps q batch d0.ordered OnTime Written refl b c m n wrote x by_write)
 
-  moments : IsStage tells says ps q batch d0.ordered (ByTimer ∷ ByWrite ∷ ByRead ∷ []) (0 + batch + batch) a d l o (due + wrote + read) (x || y)
-  moments = stage-on tells says ps q batch d0.ordered (ByTimer ∷ ByWrite ∷ []) (ByRead ∷ []) (0 + batch) batch a c d l n o (due + wrote) read x y first (stage-swept tells says ps q batch d0.ordered Read refl c d n o read y by_read)
+  moments : IsStage tells says ps q batch d0.ordered OnTime (ByTimer ∷ ByWrite ∷ ByRead ∷ []) (0 + batch + batch) a d l o (due + wrote + read) (x || y)
+  moments = stage-on tells says ps q batch d0.ordered OnTime (ByTimer ∷ ByWrite ∷ []) (ByRead ∷ []) (0 + batch) batch a c d l n o (due + wrote) read x y first (stage-swept tells says ps q batch d0.ordered OnTime Read refl c d n o read y by_read)
 
   -- with the scan
-  scanned : IsStage tells says ps q batch d0.ordered (ByTimer ∷ ByWrite ∷ ByRead ∷ ByPredicate ∷ []) (0 + batch + batch + 0) a f l u (due + wrote + read + gone) ((x || y) || false)
-  scanned = stage-on tells says ps q batch d0.ordered (ByTimer ∷ ByWrite ∷ ByRead ∷ []) (ByPredicate ∷ []) (0 + batch + batch) 0 a d f l o u (due + wrote + read) gone (x || y) false moments (stage-scanned tells says ps q batch d0.ordered d f o u by_scan.by scan_few by_scan.ends)
+  scanned : IsStage tells says ps q batch d0.ordered OnTime (ByTimer ∷ ByWrite ∷ ByRead ∷ ByPredicate ∷ []) (0 + batch + batch + 0) a f l u (due + wrote + read + gone) ((x || y) || false)
+  scanned = stage-on tells says ps q batch d0.ordered OnTime (ByTimer ∷ ByWrite ∷ ByRead ∷ []) (ByPredicate ∷ []) (0 + batch + batch) 0 a d f l o u (due + wrote + read) gone (x || y) false moments (stage-scanned tells says ps q batch d0.ordered OnTime d f o u by_scan.by scan_few by_scan.ends)
 
   last : IsStepped tells (MayRun says ps (tests_in q)) f e u p
-  last = stepped-also tells (MayTurn q Surplus) (MayRun says ps (tests_in q)) (λ c x may. take_runs says ps (tests_in q) BySurplus c x (turn_takes says ps q Surplus c x may)) f e u p surplus.by
+  last = stepped-also tells (MayTurn q Surplus) (MayRun says ps (tests_in q)) (λ c x may. take_runs says ps (tests_in q) BySurplus c x (turn_takes says ps q d0.ordered Surplus c x may).1) f e u p surplus.by
 
   -- all of them
   abbrev all_steps : List Choice
   all_steps = scanned.by.steps ++ last.steps
 
-  ordered : FollowsGrounds (SomeCovers says ps) (tests_in q) (NoneCovers says ps) d0.ordered batch grounds_of_pass a.contents all_steps
+  ordered : FollowsGrounds (SomeCovers says ps) (tests_in q) (NoneCovers says ps) OnTime d0.ordered batch grounds_of_pass a.contents a.written all_steps
   unfolding last stepped-also
   ordered =
-      grounds-on (SomeCovers says ps) (tests_in q) (NoneCovers says ps) d0.ordered batch (ByTimer ∷ ByWrite ∷ ByRead ∷ ByPredicate ∷ []) (BySurplus ∷ []) a f scanned.by.steps surplus.by.steps scanned.by.led scanned.in_order
-      (grounds-one (SomeCovers says ps) (tests_in q) (NoneCovers says ps) d0.ordered batch (MayTurn q Surplus) BySurplus (turn_takes says ps q Surplus) f surplus.by.steps surplus.by.may (λ _. surplus.few) (ends-swept (NoneCovers says ps) d0.ordered q Surplus batch f e surplus.by.steps surplus.by.led (swept-done tells q Surplus batch f e u p room z surplus)))
+      grounds-on (SomeCovers says ps) (tests_in q) (NoneCovers says ps) OnTime d0.ordered batch (ByTimer ∷ ByWrite ∷ ByRead ∷ ByPredicate ∷ []) (BySurplus ∷ []) a f scanned.by.steps surplus.by.steps scanned.by.led scanned.in_order
+      (grounds-one (SomeCovers says ps) (tests_in q) (NoneCovers says ps) OnTime d0.ordered batch (MayTurn q Surplus) BySurplus (turn_takes says ps q d0.ordered Surplus) f surplus.by.steps surplus.by.may (λ _. surplus.few) (ends-swept (NoneCovers says ps) OnTime d0.ordered q Surplus batch f e surplus.by.steps surplus.by.led (swept-done tells q Surplus batch f e u p room z surplus)))
 
   -- where more is left, a sweep removed a batch
   some : (x || y || z) ≡ true → 1 ≤ batch → 1 ≤ due + wrote + read + room
@@ -294,7 +302,7 @@ module _ {K V L P S : Type 0} (tells : L → K → V → RemovalCause → L → 
   wrote_steps : length by_write.by.steps ≤ length first.by.steps
   unfolding first stage-on stage-swept stage-one stepped-on stepped-also
   wrote_steps =
-      let timers = stage-due tells says ps q batch d0.ordered a b l m due by_timers in
+      let timers = stage-due tells says ps q batch d0.ordered OnTime a b l m due by_timers none_lasts in
       let both : length first.by.steps ≡ length timers.by.steps + length by_write.by.steps = length-append timers.by.steps by_write.by.steps in
       omega arith
 
@@ -331,7 +339,7 @@ module _ {K V L P S : Type 0} (tells : L → K → V → RemovalCause → L → 
   many_turns =
       let few = scanned.many in
       let fewer = surplus.few in
-      let members = stage_shorter tells says ps q batch d0.ordered (MayTurn q Surplus) BySurplus (turn_takes says ps q Surplus) f e u p surplus.by in
+      let members = stage_shorter tells says ps q batch d0.ordered OnTime (MayTurn q Surplus) BySurplus (turn_takes says ps q d0.ordered Surplus) f e u p surplus.by in
       let both : length all_steps ≡ length scanned.by.steps + length surplus.by.steps = length-append scanned.by.steps last.steps in
       omega arith
 
@@ -364,7 +372,7 @@ module _ {K V L P S : Type 0} (tells : L → K → V → RemovalCause → L → 
   dropped_after : AreDropped says e.contents ps qs
   dropped_after = dropped-later says f.contents e.contents (λ n r at. still_there f last.steps n r (sym (ap (λ (s : Stock K V). get s.contents.records n) last.led) ∙ at)) ps qs by_scan.dropped
 
-  pub pass-five : (batch ≡ 0 → x ≡ is_taken q Written b.contents.access) → (batch ≡ 0 → y ≡ is_taken q Read c.contents.access) → (batch ≡ 0 → z ≡ is_taken q Surplus f.contents.access) → IsPass tells says q batch d0.ordered ps qs a e l p (due + wrote + read + room) (x || y || z) scan
+  pub pass-five : (batch ≡ 0 → x ≡ is_taken q Written b.contents.access) → (batch ≡ 0 → y ≡ is_taken q Read c.contents.access) → (batch ≡ 0 → z ≡ is_taken q Surplus f.contents.access) → IsPass tells says q batch d0.ordered OnTime ps qs a e l p (due + wrote + read + room) (x || y || z) scan
   unfolding last stepped-on stepped-also
   pass-five wrote_due read_due over = record {
     by = stepped-on tells (MayRun says ps (tests_in q)) a f e l u p scanned.by last;

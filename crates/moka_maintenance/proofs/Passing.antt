@@ -94,23 +94,23 @@ not_due false removed e is = absurd (true≢false (sym is))
 -- ---- passes
 
 -- passes each of which left more and removed a record beside the scan
-pub record IsMoving {K V L P : Type 0} (tells : L → K → V → RemovalCause → L → Type 0) (says : P → K → V → Bool → Type 0) (q : Tests) (batch : ℕ) (ordered : Bool) (ps qs : List (Registered P)) (first now : Stock K V) (l m : Option L) (passes : ℕ) : Type 0 where
+pub record IsMoving {K V L P : Type 0} (tells : L → K → V → RemovalCause → L → Type 0) (says : P → K → V → Bool → Type 0) (q : Tests) (batch : ℕ) (ordered : Bool) (OnTime : Type 0) (ps qs : List (Registered P)) (first now : Stock K V) (l m : Option L) (passes : ℕ) : Type 0 where
   pub by : IsStepped tells (MayRun says ps (tests_in q)) first now l m
   pub dropped : AreDropped says now.contents ps qs
-  pub in_order : FollowsGrounds (SomeCovers says ps) (tests_in q) (NoneCovers says qs) ordered batch (grounds_of passes) first.contents by.steps
+  pub in_order : FollowsGrounds (SomeCovers says ps) (tests_in q) (NoneCovers says qs) OnTime ordered batch (grounds_of passes) first.contents first.written by.steps
   pub few : passes ≤ length (removed_by by.steps)
   pub turned : ps ≡ [] → passes * batch ≤ length by.steps
   pub many : length by.steps + length now.contents.access ≤ passes * (batch + batch + batch) + length first.contents.access
   pub exact : ps ≡ [] → list_all makes_room by.steps ≡ true → length (removed_by by.steps) ≡ passes * batch
   pub none : passes ≡ 0 → by.steps ≡ []
 
-module _ {K V L P : Type 0} (tells : L → K → V → RemovalCause → L → Type 0) (says : P → K → V → Bool → Type 0) (q : Tests) (batch : ℕ) (ordered : Bool) where
-  pub moving-none : (ps : List (Registered P)) (c : Stock K V) (l : Option L) → IsMoving tells says q batch ordered ps ps c c l l 0
+module _ {K V L P : Type 0} (tells : L → K → V → RemovalCause → L → Type 0) (says : P → K → V → Bool → Type 0) (q : Tests) (batch : ℕ) (ordered : Bool) (OnTime : Type 0) where
+  pub moving-none : (ps : List (Registered P)) (c : Stock K V) (l : Option L) → IsMoving tells says q batch ordered OnTime ps ps c c l l 0
   unfolding stepped-none
   moving-none ps c l = record { by = stepped-none tells (MayRun says ps (tests_in q)) c l; dropped = dropped-none says c.contents ps ps refl; in_order = refl; few = omega arith; turned = λ _. omega arith; many = omega arith; exact = λ _ _. omega arith; none = λ _. refl }
 
   -- there are no more passes than members
-  pub moving-few : (ps qs : List (Registered P)) (first now : Stock K V) (l m : Option L) (passes : ℕ) → IsMoving tells says q batch ordered ps qs first now l m passes → passes ≤ length first.contents.access
+  pub moving-few : (ps qs : List (Registered P)) (first now : Stock K V) (l m : Option L) (passes : ℕ) → IsMoving tells says q batch ordered OnTime ps qs first now l m passes → passes ≤ length first.contents.access
   moving-few ps qs first now l m passes h = let s = shorter tells (MayRun says ps (tests_in q)) (run_leaves (tests_in q) says ps) first now l m h.by in let f = h.few in omega arith
 
 times_next : (passes batch : ℕ) → (passes + 1) * batch ≡ passes * batch + batch
@@ -122,7 +122,7 @@ one_less passes turns a b c x y z h k e = let plus : (passes + 1) * turns ≡ pa
 one_more : (passes batch a b c : ℕ) → passes * batch ≤ a → batch ≤ b → c ≡ a + b → (passes + 1) * batch ≤ c
 one_more passes batch a b c h k e = let plus = times_next passes batch in omega arith
 
-module _ {K V L P : Type 0} (tells : L → K → V → RemovalCause → L → Type 0) (says : P → K → V → Bool → Type 0) (q : Tests) (batch : ℕ) (ordered : Bool) (ps rs qs : List (Registered P)) (first now next : Stock K V) (l m n : Option L) (passes removed : ℕ) (more scan : Bool) (h : IsMoving tells says q batch ordered ps rs first now l m passes) (p : IsPass tells says q batch ordered rs qs now next m n removed more scan) where
+module _ {K V L P : Type 0} (tells : L → K → V → RemovalCause → L → Type 0) (says : P → K → V → Bool → Type 0) (q : Tests) (batch : ℕ) (ordered : Bool) (OnTime Timely : Type 0) (on_time : OnTime → Timely) (ps rs qs : List (Registered P)) (first now next : Stock K V) (l m n : Option L) (passes removed : ℕ) (more scan : Bool) (h : IsMoving tells says q batch ordered OnTime ps rs first now l m passes) (p : IsPass tells says q batch ordered Timely rs qs now next m n removed more scan) where
   -- the access list became shorter by what was removed
   fewer : length next.contents.access + removed ≤ length now.contents.access
   fewer = let s = shorter tells (MayRun says rs (tests_in q)) (run_leaves (tests_in q) says rs) now next m n p.by in let c = p.count in omega arith
@@ -141,12 +141,12 @@ module _ {K V L P : Type 0} (tells : L → K → V → RemovalCause → L → Ty
   spares : (r : Record K V) → NoneCovers says rs r → NoneCovers says qs r
   spares = covers_none says rs qs (λ x there. kept_there rs p.dropped.steps x (subst (λ xs. Contains xs x) p.dropped.kept there))
 
-  in_order_all : FollowsGrounds (SomeCovers says ps) (tests_in q) (NoneCovers says qs) ordered batch (grounds_of (passes + 1)) first.contents (h.by.steps ++ p.by.steps)
+  in_order_all : FollowsGrounds (SomeCovers says ps) (tests_in q) (NoneCovers says qs) OnTime ordered batch (grounds_of (passes + 1)) first.contents first.written (h.by.steps ++ p.by.steps)
   in_order_all =
-      subst (λ gs. FollowsGrounds (SomeCovers says ps) (tests_in q) (NoneCovers says qs) ordered batch gs first.contents (h.by.steps ++ p.by.steps)) (sym (grounds-next passes))
-      (grounds-on (SomeCovers says ps) (tests_in q) (NoneCovers says qs) ordered batch (grounds_of passes) grounds_of_pass first now h.by.steps p.by.steps h.by.led
-      (grounds-also (SomeCovers says ps) (SomeCovers says ps) (λ r covered. covered) (tests_in q) first.contents.sketch (NoneCovers says rs) (NoneCovers says qs) spares ordered batch (grounds_of passes) first.contents h.by.steps h.in_order)
-      (grounds-also (SomeCovers says rs) (SomeCovers says ps) covered_before (tests_in q) now.contents.sketch (NoneCovers says rs) (NoneCovers says qs) spares ordered batch grounds_of_pass now.contents p.by.steps p.in_order))
+      subst (λ gs. FollowsGrounds (SomeCovers says ps) (tests_in q) (NoneCovers says qs) OnTime ordered batch gs first.contents first.written (h.by.steps ++ p.by.steps)) (sym (grounds-next passes))
+      (grounds-on (SomeCovers says ps) (tests_in q) (NoneCovers says qs) OnTime ordered batch (grounds_of passes) grounds_of_pass first now h.by.steps p.by.steps h.by.led
+      (grounds-also (SomeCovers says ps) (SomeCovers says ps) (λ r covered. covered) (tests_in q) first.contents.sketch ordered (NoneCovers says rs) (NoneCovers says qs) spares OnTime OnTime (λ timely. timely) batch (grounds_of passes) first.contents first.written first.written h.by.steps (λ _. refl) h.in_order)
+      (grounds-also (SomeCovers says rs) (SomeCovers says ps) covered_before (tests_in q) now.contents.sketch ordered (NoneCovers says rs) (NoneCovers says qs) spares Timely OnTime on_time batch grounds_of_pass now.contents now.written now.written p.by.steps (λ _. refl) p.in_order))
 
   -- no predicates are added
   none_yet : ps ≡ [] → rs ≡ []
@@ -174,7 +174,7 @@ module _ {K V L P : Type 0} (tells : L → K → V → RemovalCause → L → Ty
       let less = shorter tells (MayRun says ps (tests_in q)) (run_leaves (tests_in q) says ps) first now l m h.by in
       p.predicates order (omega arith) (subst AreAllMembers (sym h.by.led) (members-steps first h.by.steps all))
 
-  pub moving-on : 1 ≤ removed → (more || scan) ≡ true → IsMoving tells says q batch ordered ps qs first next l n (passes + 1)
+  pub moving-on : 1 ≤ removed → (more || scan) ≡ true → IsMoving tells says q batch ordered OnTime ps qs first next l n (passes + 1)
   unfolding stepped-on later stepped-also
   moving-on some is = record {
     by = stepped-on tells (MayRun says ps (tests_in q)) first now next l m n h.by later;
@@ -232,7 +232,7 @@ module _ {K V L P : Type 0} (tells : L → K → V → RemovalCause → L → Ty
     swept : (is_late limit k.readings ≡ false) × (1 ≤ batch) → more ≡ false
     swept whole = false_from_ne_true more (λ is. (let none = ended (is_whole whole.0) (left_is ∙ or_left more scan is) in let made = p.more is whole.1 in omega arith))
 
-    pub ran : IsRan tells says q reads limit batch ordered ps qs first next l n c d (passes + 1) left
+    pub ran : IsRan tells says q reads limit batch ordered OnTime ps qs first next l n c d (passes + 1) left
     unfolding stepped-on later stepped-also swept_all
     ran = record {
       by = stepped-on tells (MayRun says ps (tests_in q)) first now next l m n h.by later;

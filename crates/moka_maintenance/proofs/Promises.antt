@@ -1,6 +1,6 @@
 -- What applying the queues and the passes make of a state is a run of the reference cache that keeps its promises.
 use Rattle.std.proofs.Common.{◌≡◌, refl, ℕ, ◌+◌, ◌-◌, ◌*◌, ◌/◌, ◌<◌, ◌≤◌, ◌++◌, Bool, true, false, true≢false, not, ◌==◌, ◌&&◌, ◌||◌, List, [], ◌∷◌, length, ◌⊎◌, inl, inr, Option, Some, None, is_some, ap, sym, subst, ◌∙◌, arith, append-nil, append_assoc, eqb→eq, if◌then◌else◌, length-append}
-use Rattle.std.proofs.lemmas.Bool.{or_right}
+use Rattle.std.proofs.lemmas.Bool.{or_parts, or_right}
 use Rattle.std.specs.Bool.{passes}
 use Rattle.std.specs.Prelude.{Contains, take}
 use Rattle.std.specs.List.{list_any}
@@ -25,7 +25,7 @@ use Rattle.moka_parts.specs.Bounds.{removed_by, IsPlainSurplus, EndsSweep, IsBou
 use Rattle.moka_parts.specs.Exact.{IsExact, IsWithin}
 use Rattle.moka_parts.specs.Settling.{IsAllSent, IsWaitingIn, IsWhole, IsConsistent, IsConsistentState, IsSound, IsValid, LeavesBehind, NeverRenewsOnRead, Settles, leaves_more_idle}
 use Rattle.moka_parts.specs.Listed.{LeavesList, ListedRun}
-use Rattle.moka_parts.specs.Order.{ComesToRest, IsAtRestByWrite, write_list_at_end, write_list_before_steps, written_after_choices, written_after_writes}
+use Rattle.moka_parts.specs.Order.{IsAtRestByWrite, write_list_at_end, write_list_before_steps, written_after_choices, written_after_writes}
 use Rattle.moka_parts.specs.Grounds.{AreDrops, FollowsGrounds, IsAtRestByRead, grounds_of}
 use Rattle.moka_parts.proofs.Maps.{same_by_order}
 use Rattle.moka_parts.proofs.Options.{mapped_is_some}
@@ -109,8 +109,8 @@ pub record IsSimple {K V X P W : Type 0} (s : State K V X P W) : Type 0 where
 
 module _ {K V X P W L C : Type 0} {tells : L → K → V → RemovalCause → L → Type 0} {reads : C → Instant → C → Type 0} (s : State K V X P W) (simple : IsSimple s) (terms : Terms) {q : Tests} (by_state : tests_in q ≡ tests_of s terms.now)
     {b c d : Contents K V} {ordered : Bool} (kept : ordered ≡ keeps_write_list s.settings) {ns ms ks : List ℕ} {l m n : Option L} (begins : b ≡ after_queued_reads s) (prepared_with : ArePrepared tells s.capacity s.settings.policy ordered (is_some s.settings.weigher) b c ns ms s.writes l m)
-    {says : P → K → V → Bool → Type 0} {qs : List (Registered P)} {limit : Option ℕ} {batch : ℕ} {clock clock_after : C} {passes : ℕ} {left : Bool} (limited : limit ≡ (if s.settings.listening then terms.limit else None)) (batched : batch ≡ terms.batch) (sketched : d.sketch ≡ c.sketch)
-    (ran_by : IsRan tells says q reads limit batch ordered s.predicates qs (stock_of c ms) (stock_of d ks) m n clock clock_after passes left) where
+    {says : P → K → V → Bool → Type 0} {qs : List (Registered P)} {limit : Option ℕ} {batch : ℕ} {clock clock_after : C} {passes : ℕ} {left : Bool} (limited : limit ≡ (if s.settings.listening then terms.limit else None)) (batched : batch ≡ terms.batch) (sketched : d.sketch ≡ c.sketch) {OnTime : Type 0}
+    (ran_by : IsRan tells says q reads limit batch ordered OnTime s.predicates qs (stock_of c ms) (stock_of d ks) m n clock clock_after passes left) where
   -- the premises in terms of the state
   prepared : ArePrepared tells s.capacity s.settings.policy (keeps_write_list s.settings) (is_some s.settings.weigher) (after_queued_reads s) c ns ms s.writes l m
   prepared =
@@ -123,10 +123,10 @@ module _ {K V X P W L C : Type 0} {tells : L → K → V → RemovalCause → L 
   abbrev limit_here : Option ℕ
   limit_here = if s.settings.listening then terms.limit else None
 
-  ran : IsRan tells says q reads limit_here terms.batch (keeps_write_list s.settings) s.predicates qs (stock_of c ms) (stock_of d ks) m n clock clock_after passes left
+  ran : IsRan tells says q reads limit_here terms.batch (keeps_write_list s.settings) OnTime s.predicates qs (stock_of c ms) (stock_of d ks) m n clock clock_after passes left
   ran =
-      subst (λ o. IsRan tells says q reads limit_here terms.batch o s.predicates qs (stock_of c ms) (stock_of d ks) m n clock clock_after passes left) kept
-      (subst (λ o. IsRan tells says q reads o terms.batch ordered s.predicates qs (stock_of c ms) (stock_of d ks) m n clock clock_after passes left) limited (subst (λ k. IsRan tells says q reads limit k ordered s.predicates qs (stock_of c ms) (stock_of d ks) m n clock clock_after passes left) batched ran_by))
+      subst (λ o. IsRan tells says q reads limit_here terms.batch o OnTime s.predicates qs (stock_of c ms) (stock_of d ks) m n clock clock_after passes left) kept
+      (subst (λ o. IsRan tells says q reads o terms.batch ordered OnTime s.predicates qs (stock_of c ms) (stock_of d ks) m n clock clock_after passes left) limited (subst (λ k. IsRan tells says q reads limit k ordered OnTime s.predicates qs (stock_of c ms) (stock_of d ks) m n clock clock_after passes left) batched ran_by))
 
   -- what the run chose
   abbrev choices : Freedom
@@ -173,6 +173,16 @@ module _ {K V X P W L C : Type 0} {tells : L → K → V → RemovalCause → L 
   pub run_leaves_lasting : ((k : ℕ) (r : Record K V) → get s.records k ≡ Some r → r.expires ≡ None) → (k : ℕ) (r : Record K V) → get d.records k ≡ Some r → r.expires ≡ None
   run_leaves_lasting lasting k r there =
       let old = run_keeps s choices k r (ap (λ (c : Contents K V). get c.records k) end_same ∙ there) in
+      ap (λ (q : Record K V). q.expires) {y = record old.0 { applied = old.2.0 }} old.2.1 ∙ lasting k old.0 old.1
+
+  -- what the run chose of its queues
+  abbrev begun : Freedom
+  begun = record { moves = applied.moves; is_short = prepared.is_short; steps = [] }
+
+  -- nor has one before the steps
+  pub queues_leave_lasting : ((k : ℕ) (r : Record K V) → get s.records k ≡ Some r → r.expires ≡ None) → (k : ℕ) (r : Record K V) → get c.records k ≡ Some r → r.expires ≡ None
+  queues_leave_lasting lasting k r there =
+      let old = run_keeps s begun k r (ap (λ (e : Contents K V). get e.records k) before_same ∙ there) in
       ap (λ (q : Record K V). q.expires) {y = record old.0 { applied = old.2.0 }} old.2.1 ∙ lasting k old.0 old.1
 
   -- once everything was sent, the report is exact, whatever the batch
@@ -228,7 +238,7 @@ module _ {K V X P W L C : Type 0} {tells : L → K → V → RemovalCause → L 
         cut = λ cut. ran.cut (sym cut_late ∙ cut);
         more = λ whole is. ran.whole (sym cut_late ∙ whole.0) whole.1 is;
         unfinished = λ whole some settled. elim (ran.unfinished (order_kept some) (sym cut_late ∙ whole.0) whole.1 some) [ inl is ↦ is | inr none ↦ absurd (true≢false (sym settled ∙ no_settled d.records d.access none)) ];
-        idle = λ enabled uncut none. ran.idle none ∙ idle_by_state;
+        idle = λ enabled none. ran.idle none ∙ idle_by_state;
         count_high = near.0;
         count_low = near.1;
       }
@@ -293,22 +303,14 @@ module _ {K V X P W L C : Type 0} {tells : L → K → V → RemovalCause → L 
           let there = subst (λ (e : Stock K V). HasUnsettled e) (sym (seen_after at.first)) some in
           true≢false (sym (some_unsettled after.records after.access there.number there.is_in there.unsettled) ∙ none)
 
-  -- it came to rest by the write list
+  -- at rest by the write list
   written_front : keeps_write_list s.settings ≡ true → (first : List Choice) → IsAtRest q Written (after_steps (stock_of c ms) first) → IsAtRestByWrite (tests_of s terms.now) (after_choices (before_steps s choices) first).records (written_after_choices (write_list_before_steps s ns choices) first)
   written_front kept first rest =
       subst (λ t. IsAtRestByWrite t (after_choices (before_steps s choices) first).records (written_after_choices (write_list_before_steps s ns choices) first)) by_state
       (subst (λ xs. IsAtRestByWrite (tests_in q) (after_choices (before_steps s choices) first).records (written_after_choices xs first)) (list_before kept)
       (subst (λ (e : Stock K V). IsAtRestByWrite (tests_in q) e.contents.records e.written) (sym (seen_after first)) rest))
 
-  comes_to_rest : IsWhole s terms course → IsAllSent s → keeps_write_list s.settings ≡ true → ComesToRest s ns choices terms.now
-  comes_to_rest whole all kept =
-      let swept = ran.writes_swept in
-      elim (swept.rest (uncut whole)) [
-        | inl some ↦ absurd (none_between all swept.first swept.second swept.split some)
-        | inr rest ↦ (swept.first, swept.second ++ ran.dropped.steps, split_all swept.first swept.second swept.split, written_front kept swept.first rest)
-      ]
-
-  -- and where it ended
+  -- where the last sweep by it ended
   writes_ended : keeps_write_list s.settings ≡ true → (first second : List Choice) × (ran.by.steps ++ ran.dropped.steps ≡ first ++ second)
       × EndsSweep s terms course (λ e. IsAtRestByWrite (tests_of s terms.now) e.records (written_after_choices (write_list_before_steps s ns choices) first)) (after_choices (before_steps s choices) first) (length first)
   writes_ended kept =
@@ -350,9 +352,9 @@ module _ {K V X P W L C : Type 0} {tells : L → K → V → RemovalCause → L 
           true≢false (sym (some_unsettled d.records d.access some.number some.is_in some.unsettled) ∙ settled)
 
   leaves_list : LeavesList ns ks s terms choices course
-  leaves_list = record { list = list_after; rests = comes_to_rest; swept = writes_ended }
+  leaves_list = record { list = list_after; swept = writes_ended }
 
-  module _ (read : X → K → V → ℕ → Option ℕ → ℕ → Option ℕ) (lasts : NeverRenewsOnRead read s → (k : ℕ) (r : Record K V) → get d.records k ≡ Some r → is_member k d.access ≡ true → is_applied r ≡ true → is_expired r terms.now ≡ false) where
+  module _ (read : X → K → V → ℕ → Option ℕ → ℕ → Option ℕ) (on_time : NeverRenewsOnRead read s → OnTime) (lasts : NeverRenewsOnRead read s → (k : ℕ) (r : Record K V) → get d.records k ≡ Some r → is_member k d.access ≡ true → is_applied r ≡ true → is_expired r terms.now ≡ false) where
     justified : AreJustified says (tests_of s terms.now) (before_steps s choices) s.predicates (ran.by.steps ++ ran.dropped.steps)
     justified =
         subst (λ t. AreJustified says t (before_steps s choices) s.predicates (ran.by.steps ++ ran.dropped.steps)) by_state
@@ -365,9 +367,6 @@ module _ {K V X P W L C : Type 0} {tells : L → K → V → RemovalCause → L 
     is_free = (applied.may, justified)
 
     -- once everything was sent, the steps begin with settled members alone
-    abbrev begun : Freedom
-    begun = record { moves = applied.moves; is_short = prepared.is_short; steps = [] }
-
     begun_consistent : IsConsistent (IsWaitingIn s.outstanding []) c.records c.access
     begun_consistent = subst (λ (e : Contents K V). IsConsistent (IsWaitingIn s.outstanding []) e.records e.access) before_same (run_kept s begun simple.consistent)
 
@@ -383,9 +382,12 @@ module _ {K V X P W L C : Type 0} {tells : L → K → V → RemovalCause → L 
         omega arith
 
     -- with a batch for all records, no predicate is left
-    no_predicate : IsAllSent s → s.settings.invalidator ≡ true → len s.records ≤ terms.batch → qs ≡ []
-    no_predicate all supported enough =
-        ran.predicates (or_right (is_some s.settings.time_to_live) s.settings.invalidator supported) (few_members all enough) (λ k r there. members_at_first all k r there)
+    no_predicate : IsAllSent s → len s.records ≤ terms.batch → qs ≡ []
+    no_predicate all enough = go (keeps_write_list s.settings) refl
+      where
+        go : (b : Bool) → keeps_write_list s.settings ≡ b → qs ≡ []
+        go true kept = ran.predicates kept (few_members all enough) (λ k r there. members_at_first all k r there)
+        go false none = nothing_kept s.predicates qs ran.dropped.steps (simple.unsupported (or_parts (is_some s.settings.time_to_live) s.settings.invalidator none).1) ran.dropped.drops ran.dropped.kept
 
     settles : Settles says read s terms course left_state
     settles = record {
@@ -393,8 +395,8 @@ module _ {K V X P W L C : Type 0} {tells : L → K → V → RemovalCause → L 
       exact = λ all. run_leaves_exact all;
       within = λ whole all. elim (at_rest whole) [ inl some ↦ absurd (none_unsettled all some) | inr within ↦ within ];
       expired = λ all never k r there. let each = run_settles_each all k r there in lasts never k r there each.0 each.1;
-      predicates = λ all enabled supported enough. no_predicate all supported enough;
-      covered = λ all enabled supported enough p k r is there covers. not_contained qs p (no_predicate all supported enough) (subst (λ ps. Contains ps p) kept_same (covering_stays says s terms.now choices is_free p k r is (ap (λ (c : Contents K V). get c.records k) end_same ∙ there) covers));
+      predicates = λ all enabled enough. no_predicate all enough;
+      covered = λ all enough p k r is there covers. not_contained qs p (no_predicate all enough) (subst (λ ps. Contains ps p) kept_same (covering_stays says s terms.now choices is_free p k r is (ap (λ (c : Contents K V). get c.records k) end_same ∙ there) covers));
     }
 
     module _ (capacity : ℕ) (plain : IsPlainSurplus s terms.now capacity (before_steps s choices)) where
@@ -422,12 +424,14 @@ module _ {K V X P W L C : Type 0} {tells : L → K → V → RemovalCause → L 
         (ran.exact (sym cut_late ∙ whole.0) whole.1 plain.no_predicate (both_make_room ran.by.steps ran.dropped.steps (removes_for_size_alone says s terms.now choices capacity simple.consistent is_free plain makes_room (λ n. refl))).0)
 
     -- the steps are in order, whatever sketch the contents have
-    in_order : FollowsGrounds (SomeCovers says s.predicates) (tests_of s terms.now) (NoneCovers says (kept_by_choices s.predicates ran.dropped.steps)) (keeps_write_list s.settings) terms.batch (grounds_of passes) (before_steps s choices) ran.by.steps
+    in_order : FollowsGrounds (SomeCovers says s.predicates) (tests_of s terms.now) (NoneCovers says (kept_by_choices s.predicates ran.dropped.steps)) (NeverRenewsOnRead read s) (keeps_write_list s.settings) terms.batch (grounds_of passes) (before_steps s choices) (write_list_before_steps s ns choices) ran.by.steps
     in_order =
         let spared = NoneCovers says (kept_by_choices s.predicates ran.dropped.steps) in
-        subst (λ t. FollowsGrounds (SomeCovers says s.predicates) t spared (keeps_write_list s.settings) terms.batch (grounds_of passes) (before_steps s choices) ran.by.steps) by_state
-        (subst (λ b. FollowsGrounds (SomeCovers says s.predicates) (tests_in q) spared (keeps_write_list s.settings) terms.batch (grounds_of passes) b ran.by.steps) (sym before_same)
-        (grounds-also (SomeCovers says s.predicates) (SomeCovers says s.predicates) (λ r covered. covered) (tests_in q) c.sketch (NoneCovers says qs) spared (λ r none. subst (λ ps. NoneCovers says ps r) ran.dropped.kept none) (keeps_write_list s.settings) terms.batch (grounds_of passes) (stock_of c ms).contents ran.by.steps ran.in_order))
+        let never = NeverRenewsOnRead read s in
+        let list = write_list_before_steps s ns choices in
+        subst (λ t. FollowsGrounds (SomeCovers says s.predicates) t spared never (keeps_write_list s.settings) terms.batch (grounds_of passes) (before_steps s choices) list ran.by.steps) by_state
+        (subst (λ b. FollowsGrounds (SomeCovers says s.predicates) (tests_in q) spared never (keeps_write_list s.settings) terms.batch (grounds_of passes) b list ran.by.steps) (sym before_same)
+        (grounds-also (SomeCovers says s.predicates) (SomeCovers says s.predicates) (λ r covered. covered) (tests_in q) c.sketch (keeps_write_list s.settings) (NoneCovers says qs) spared (λ r none. subst (λ ps. NoneCovers says ps r) ran.dropped.kept none) OnTime never on_time terms.batch (grounds_of passes) (stock_of c ms).contents ms list ran.by.steps list_before ran.in_order))
 
     -- no reading but the last is late by the limit given, whether the clock is read at all or not
     ends_by_terms : (b : Bool) → s.settings.listening ≡ b → is_late (if b then terms.limit else None) (take (length ran.readings - 1) ran.readings) ≡ false → is_late terms.limit (take (length ran.readings - 1) ran.readings) ≡ false
@@ -441,7 +445,7 @@ module _ {K V X P W L C : Type 0} {tells : L → K → V → RemovalCause → L 
         late_of_none None = refl
         late_of_none (Some limit) = refl
 
-    bounded : IsBounded says s terms choices course
+    bounded : IsBounded says read ns s terms choices course
     bounded = record {
       made = ran.made;
       passes = subst (λ ns. passes ≤ length ns + 1) (sym removed_same) ran.few;
@@ -472,12 +476,12 @@ module _ {K V X P W L C : Type 0} {tells : L → K → V → RemovalCause → L 
       (subst (λ xs. Told tells m xs n) (left-seen None c ran.by.steps) ran.by.told))))
 
   -- it keeps all promises, from one write list to the other
-  pub run_promised : (read : X → K → V → ℕ → Option ℕ → ℕ → Option ℕ) → (NeverRenewsOnRead read s → (k : ℕ) (r : Record K V) → get d.records k ≡ Some r → is_member k d.access ≡ true → is_applied r ≡ true → is_expired r terms.now ≡ false)
+  pub run_promised : (read : X → K → V → ℕ → Option ℕ → ℕ → Option ℕ) → (NeverRenewsOnRead read s → OnTime) → (NeverRenewsOnRead read s → (k : ℕ) (r : Record K V) → get d.records k ≡ Some r → is_member k d.access ≡ true → is_applied r ≡ true → is_expired r terms.now ≡ false)
       → s.settings.listening ≡ is_some l → IsPromised says read tells reads ns ks s terms left passes (with_contents s d qs) l n clock clock_after
-  run_promised read lasts listening = record {
+  run_promised read on_time lasts listening = record {
     readings = ran.readings;
     notices = when_listening s.settings.listening (left_in_run s choices);
-    run = promised read lasts;
+    run = promised read on_time lasts;
     heard = promised_told listening;
     led = ran.read;
   }

@@ -12,7 +12,7 @@ use Rattle.moka_parts.specs.Visibility.{is_expired}
 use Rattle.moka_parts.proofs.AccessList.{uncounted_taken_out}
 use Rattle.moka_store.specs.Store.{Kept, with_timer}
 use Rattle.moka_store.proofs.TableMaps.{get-altered, get-past_altered}
-use Rattle.moka_maintenance.specs.Timers.{AreTimed, HasNoneDue, KeepsTimers, SetsTimers, StandsAtExpiry}
+use Rattle.moka_maintenance.specs.Timers.{AreOnTime, AreTimed, HasNoneDue, KeepsTimers, SetsTimers, StandsAtExpiry}
 
 -- who is a member once one was taken out was one before
 pub member-was : (n k : ℕ) (access : List Member) → is_member k (without_member n access) ≡ true → is_member k access ≡ true
@@ -100,3 +100,12 @@ module _ {K V : Type 0} where
       go : (o : Option ℕ) → get k.timers n ≡ o → has_passed o now ≡ false
       go None e = refl
       go (Some t) e = let later = none n t e in grind (arith, later)
+
+  -- timers stay on time
+  pub still-on_time : {S : Type 0} → (old new : Kept K V S) → KeepsTimers old new → ((n : ℕ) (r : Record K V) → get new.records n ≡ Some r → get old.records n ≡ Some r) → AreOnTime old → AreOnTime new
+  still-on_time old new kept fewer (inl timed) = inl (kept.timed ∙ timed.0, still-timed old new timed.0 kept timed.1)
+  still-on_time old new kept fewer (inr never) = inr (λ n r there. never n r (fewer n r there))
+
+  pub lasts-on_time : {S : Type 0} → (now : ℕ) (k : Kept K V S) → AreOnTime k → HasNoneDue now k → (n : ℕ) (r : Record K V) → get k.records n ≡ Some r → is_member n k.access ≡ true → is_applied r ≡ true → is_expired r now ≡ false
+  lasts-on_time now k (inl timed) none n r there is_in applied = lasts-timed now k timed.1 none n r there is_in applied
+  lasts-on_time now k (inr never) none n r there is_in applied = ap (λ e. has_passed (moment_of e) now) (never n r there)

@@ -12,10 +12,13 @@ use Rattle.moka_parts.proofs.AccessList.{counted_taken_out}
 use Rattle.moka_store.specs.Store.{Kept, cursor_past, with_timer}
 use Rattle.moka_store.proofs.Gets.{after_remove, get-past_insert, get-past_remove, get-inserted}
 use Rattle.moka_maintenance.specs.Expelled.{without_record}
-use Rattle.moka_maintenance.specs.Timers.{SetsTimers}
+use Rattle.moka_parts.specs.Maintenance.{Choice}
+use Rattle.moka_maintenance.specs.Steps.{Stock, stock_in, after_steps}
+use Rattle.moka_maintenance.specs.Timers.{AreOnTime, KeepsTimers, SetsTimers}
 use Rattle.moka_maintenance.specs.Upkeep.{Upkeep, SetsNoTimer, UpkeepAt}
 use Rattle.moka_maintenance.proofs.Placed.{none_inserted, places-gone, places-on, rows-gone, rows-on}
-use Rattle.moka_maintenance.proofs.Timing.{keeps-none, keeps-on, member-was, sets-at, sets-outside, timer-past, timer-set}
+use Rattle.moka_maintenance.proofs.Stepped.{still_there}
+use Rattle.moka_maintenance.proofs.Timing.{keeps-none, keeps-on, member-was, sets-at, sets-outside, still-on_time, timer-past, timer-set}
 
 module _ {K V S : Type 0} where
   -- nothing is done
@@ -134,3 +137,10 @@ module _ {K V S : Type 0} where
   -- a step and then one after which none is due
   pub upkept-on : (now : ℕ) (a b c : Kept K V S) → Upkeep a b → UpkeepAt now b c → UpkeepAt now a c
   upkept-on now a b c h j = record { upkeep = upkeep-on a b c h j.upkeep; none = j.none }
+
+  -- ---- steps of a run
+
+  -- timers that were on time are so after them
+  pub upkept-on_time : (old new : Kept K V S) → KeepsTimers old new → (xs : List Choice) → stock_in new ≡ after_steps (stock_in old) xs → AreOnTime old → AreOnTime new
+  upkept-on_time old new kept xs led =
+      still-on_time old new kept (λ n r there. still_there (stock_in old) xs n r (sym (ap (λ (s : Stock K V). get s.contents.records n) led) ∙ there))

@@ -41,15 +41,15 @@ pub record HasSwept {K V : Type 0} (q : Tests) (sweep : Sweep) (batch : ℕ) (be
 module _ {K V L P : Type 0} (tells : L → K → V → RemovalCause → L → Type 0)
     (says : P → K → V → Bool → Type 0) (q : Tests) where
   -- one pass, from some predicates to others: what it removed beside the scan, and whether the sweeps and the scan left
-  -- more
-  pub record IsPass (batch : ℕ) (ordered : Bool) (ps qs : List (Registered P)) (before after : Stock K V)
-      (l m : Option L) (removed : ℕ) (left scan : Bool) : Type 0 where
+  -- more; `OnTime` says that no settled member expires without a timer
+  pub record IsPass (batch : ℕ) (ordered : Bool) (OnTime : Type 0) (ps qs : List (Registered P))
+      (before after : Stock K V) (l m : Option L) (removed : ℕ) (left scan : Bool) : Type 0 where
     pub by : IsStepped tells (MayRun says ps (tests_in q)) before after l m
     pub dropped : AreDropped says after.contents ps qs
     -- timers, the sweep by the last write, the one by the last read, the scan and the sweep of the surplus, each with
     -- its own causes
-    pub in_order : FollowsGrounds (SomeCovers says ps) (tests_in q) (NoneCovers says ps) ordered batch grounds_of_pass
-        before.contents by.steps
+    pub in_order : FollowsGrounds (SomeCovers says ps) (tests_in q) (NoneCovers says ps) OnTime ordered batch
+        grounds_of_pass before.contents before.written by.steps
     pub count : removed ≤ length (removed_by by.steps)
     pub more : left ≡ true → 1 ≤ batch → 1 ≤ removed
     -- beside timers and the scan, each of its steps takes at most a batch of turns
@@ -79,13 +79,13 @@ module _ {K V L P : Type 0} (tells : L → K → V → RemovalCause → L → Ty
 
   module _ {C : Type 0} (reads : C → Instant → C → Type 0) (limit : Option ℕ) where
     -- passes one after the other, each but the last of which removed a record beside the scan and left more
-    pub record IsRan (batch : ℕ) (ordered : Bool) (ps qs : List (Registered P)) (before after : Stock K V)
-        (l m : Option L) (c d : C) (passes : ℕ) (left : Bool) : Type 0 where
+    pub record IsRan (batch : ℕ) (ordered : Bool) (OnTime : Type 0) (ps qs : List (Registered P))
+        (before after : Stock K V) (l m : Option L) (c d : C) (passes : ℕ) (left : Bool) : Type 0 where
       pub by : IsStepped tells (MayRun says ps (tests_in q)) before after l m
       pub dropped : AreDropped says after.contents ps qs
       -- the steps of each pass have their order and their causes; no predicate that is left covers what a scan spared
-      pub in_order : FollowsGrounds (SomeCovers says ps) (tests_in q) (NoneCovers says qs) ordered batch
-          (grounds_of passes) before.contents by.steps
+      pub in_order : FollowsGrounds (SomeCovers says ps) (tests_in q) (NoneCovers says qs) OnTime ordered batch
+          (grounds_of passes) before.contents before.written by.steps
       pub made : 1 ≤ passes
       pub few : passes ≤ length (removed_by by.steps) + 1
       pub many : length by.steps + length after.contents.access

@@ -1,5 +1,5 @@
 -- What maintenance makes of the timers of a store.
-use Rattle.std.specs.Prelude.{◌≡◌, ℕ, true, ◌<◌, ◌⊎◌, Some}
+use Rattle.std.specs.Prelude.{◌≡◌, ℕ, true, ◌<◌, ◌⊎◌, Some, None}
 use Rattle.std.specs.FinMap.{get}
 use Rattle.moka_parts.specs.declared.records.Record.{Record}
 use Rattle.moka_parts.specs.Time.{moment_of}
@@ -11,6 +11,12 @@ module _ {K V : Type 0} where
   abbrev pub AreTimed : {S : Type 0} → Kept K V S → Type 0
   AreTimed k = (n : ℕ) (r : Record K V) → get k.records n ≡ Some r → is_member n k.access ≡ true → is_applied r ≡ true
       → get k.timers n ≡ moment_of r.expires
+
+  -- no settled member expires without a timer: where timers are kept they stand at the records' expiries, and where they
+  -- are not, no record has an expiry
+  abbrev pub AreOnTime : {S : Type 0} → Kept K V S → Type 0
+  AreOnTime k = ((k.timed ≡ true) × AreTimed k) ⊎ ((n : ℕ) (r : Record K V) → get k.records n ≡ Some r
+      → r.expires ≡ None)
 
   -- where timers are kept, the timer of the number, if it is a member with a record, stands at the record's expiry
   abbrev pub StandsAtExpiry : {S : Type 0} → ℕ → Kept K V S → Type 0

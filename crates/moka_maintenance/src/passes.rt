@@ -6,6 +6,7 @@ ghost use Rattle.std.specs.Duration.{as_nanos};
 ghost use Rattle.moka_maintenance.specs.Steps.{stock_in};
 ghost use Rattle.moka_maintenance.specs.Sweeps.{is_taken, IsSwept};
 ghost use Rattle.moka_maintenance.specs.Passes.{Starts, Checks, IsPass, IsRan};
+ghost use Rattle.moka_maintenance.specs.Timers.{AreOnTime};
 ghost use Rattle.moka_maintenance.specs.Upkeep.{SetsNoTimer, UpkeepAt};
 
 use crate::due::expire_due;
@@ -107,7 +108,7 @@ pub fn make_passes<
     terms: Terms,
 ) -> Ran
     ensures ran { IsRan L.tells P.says terms.tests C.reads (option_map as_nanos terms.limit) terms.batch
-        store.old.ordered invalidator.old invalidator.new (stock_in store.old)
+        store.old.ordered (AreOnTime store.old) invalidator.old invalidator.new (stock_in store.old)
         (stock_in store.new) notifier.old notifier.new clock.old clock.new
         result.passes result.has_more }
     ensures kept { UpkeepAt terms.tests.now.0 store.old store.new }
@@ -139,9 +140,9 @@ fn make_pass<K: Eq + Hash + Drop, V: Drop, S: BuildHasher, L: Listener<K, V>, P:
 ) -> Pass
 where
     P: PredicateFn<K, V>,
-    ensures pass { IsPass L.tells P.says terms.tests terms.batch store.old.ordered invalidator.old invalidator.new
-        (stock_in store.old) (stock_in store.new) notifier.old notifier.new result.removed result.has_more
-        result.scan_has_more }
+    ensures pass { IsPass L.tells P.says terms.tests terms.batch store.old.ordered (AreOnTime store.old)
+        invalidator.old invalidator.new (stock_in store.old) (stock_in store.new) notifier.old notifier.new
+        result.removed result.has_more result.scan_has_more }
     ensures kept { UpkeepAt terms.tests.now.0 store.old store.new }
 {
     let due = expire_due(store, notifier, terms.tests);

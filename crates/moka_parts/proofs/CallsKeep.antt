@@ -2,11 +2,11 @@
 use Rattle.std.proofs.Common.{◌≡◌, refl, ℕ, ◌+◌, ◌<◌, Bool, true, false, List, Option, Some, None, ap, sym, ◌∙◌, subst, ◌⊎◌, inl, inr, arith, true≢false}
 use Rattle.std.specs.Cmp.{IsEquivalence}
 use Rattle.std.specs.FinMap.{get, insert, remove}
-use Rattle.moka_parts.proofs.Types.{Instant, Record, Operation, Upsert, Removal, Ticketed, Ticket, KvEntry, Records, Operations, State}
+use Rattle.moka_parts.proofs.Types.{Instant, Record, Operation, Upsert, Removal, Ticketed, Records, Operations, State}
 use Rattle.moka_parts.specs.Records.{counted_of, record_of_key}
 use Rattle.moka_parts.specs.State.{is_disabled}
 use Rattle.moka_parts.specs.Settling.{number_of, IsWaiting, IsTracked, AreTicketed, IsWellNumbered, IsValid, IsConsistent}
-use Rattle.moka_parts.specs.Calls.{new_record, inserted, updated_record, replaced, handing_out, RemovesAt, RemoveStep}
+use Rattle.moka_parts.specs.Calls.{new_record, inserted, updated_record, replaced, handing_out}
 use Rattle.moka_parts.proofs.Maps.{nothing_at, found_inserted, found_removed}
 use Rattle.moka_parts.proofs.Waiting.{HandsOut, hands_out, waits_at}
 use Rattle.moka_parts.proofs.Consistent.{take_kept, put_kept}
@@ -164,11 +164,3 @@ module _ {K V X P W : Type 0} (eq : K → K → Bool) where
       (take_kept (IsWaiting s) (IsWaiting (handing_out s o)) s.records s.access h.consistent r.number (r.generation + 1))
       (with_records_numbered s (remove s.records r.number) (found_enabled s key r h.numbered found) h.numbered (λ n x at. (x, (found_removed s.records r.number n x at).1, (refl, refl))))
       (h.numbered.numbered.numbered r.number r there).1 tt
-
-  -- a caller's removal
-  pub remove_keeps : (s t : State K V X P W) (key : K) (a : Option (KvEntry K V × Ticket)) → IsValid eq s → RemoveStep eq s key a t → IsValid eq t
-  remove_keeps s t key a h step = go (record_of_key eq s.records key) refl step
-    where
-      go : (o : Option (Record K V)) → record_of_key eq s.records key ≡ o → RemovesAt s o a t → IsValid eq t
-      go None found step = subst (IsValid eq) (sym step.1) h
-      go (Some r) found step = subst (IsValid eq) (sym step.1) (removal_valid s key r found h)

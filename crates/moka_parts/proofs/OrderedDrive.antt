@@ -138,6 +138,10 @@ module _ {K V X L P W C I : Type 0} (m : Meaning K V X L P W C I) where
     steps = steps;
     is_run = made;
     listed = lists;
-    orderly = λ empty orderly. listed_steps_orderly old.state old.write_list new.write_list steps laws valid (λ kept. empty_in_order old.state old.write_list empty (listed kept)) orderly lists;
+    orderly = λ start orderly.
+        listed_steps_orderly old.state old.write_list new.write_list steps laws valid (λ kept. elim start [
+          | inl empty ↦ empty_in_order old.state old.write_list empty (listed kept)
+          | inr order ↦ order kept
+        ]) orderly lists;
     told_once = λ listening. tells_each_once m laws old.state steps valid listening (is_of_reference S m calls replies steps old new clock clock_after ids ids_after made).are_steps;
   }

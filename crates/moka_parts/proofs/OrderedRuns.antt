@@ -1,11 +1,11 @@
 -- A run that takes the write list along keeps a state in order, and leaves nothing that is past its time.
-use Rattle.std.proofs.Common.{◌≡◌, ℕ, Bool, true, false, List, [], ◌∷◌, ◌++◌, Option, Some, ap, sym, subst, ◌∙◌, MatchBool}
+use Rattle.std.proofs.Common.{◌≡◌, ℕ, Bool, true, false, List, [], ◌∷◌, ◌++◌, Option, Some, inl, ap, sym, subst, ◌∙◌, MatchBool}
 use Rattle.std.specs.FinMap.{get}
 use Rattle.moka_parts.proofs.Types.{Record, Registered, Notice, State, Settings, Contents, Choice, Freedom, Terms, Course, Tests}
 use Rattle.moka_parts.specs.State.{is_disabled, keeps_write_list}
 use Rattle.moka_parts.specs.Maintenance.{tests_of, RunsBy, DoesNothing, AreFree, AreJustified, kept_by_choice, after_choice, after_choices, before_steps, after_run}
 use Rattle.moka_parts.specs.Settling.{IsWhole, IsAllSent, IsValid, IsConsistentState, AreRising}
-use Rattle.moka_parts.specs.Bounds.{IsBounded}
+use Rattle.moka_parts.specs.Bounds.{IsBounded, HasBounds}
 use Rattle.moka_parts.specs.Order.{IsInOrder, ComesToRest, AgesOut, AgesOutInOrder}
 use Rattle.moka_parts.specs.Visibility.{is_past_live, is_written_before}
 use Rattle.moka_parts.specs.Runs.{PromisedRun, OrderlyRun}
@@ -52,10 +52,10 @@ module _ {K V X P W : Type 0} (says : P → K → V → Bool → Type 0) (read :
   pub listed_is_promised : PromisedRun says read s terms course notices t
   listed_is_promised = (go (is_disabled s.capacity) run.0, run.1.0)
     where
-      go : (b : Bool) → MatchBool b (DoesNothing s course notices t) ((ch : Freedom) × RunsBy says s terms ch course notices t × (IsBounded says s terms ch course × LeavesList before after s terms ch course)) →
-          MatchBool b (DoesNothing s course notices t) ((ch : Freedom) × RunsBy says s terms ch course notices t × IsBounded says s terms ch course)
+      go : (b : Bool) → MatchBool b (DoesNothing s course notices t) ((ch : Freedom) × RunsBy says s terms ch course notices t × (IsBounded says read before s terms ch course × LeavesList before after s terms ch course)) →
+          MatchBool b (DoesNothing s course notices t) ((ch : Freedom) × RunsBy says s terms ch course notices t × HasBounds says read s terms ch course)
       go true nothing = nothing
-      go false (ch, by, also) = (ch, by, also.0)
+      go false (ch, by, also) = (ch, by, (before, also.0))
 
   module _ (eq : K → K → Bool) (valid : IsValid eq s) where
     -- it keeps a state in order
@@ -73,7 +73,7 @@ module _ {K V X P W : Type 0} (says : P → K → V → Bool → Type 0) (read :
     listed_run_ages_out order = run_cases (AgesOut s terms course t) s t _ says terms course notices
         (λ off nothing. subst (AgesOut s terms course) (sym nothing.0) (record { live = λ whole all kept n r there. absurd (bare off n r there); invalid = λ whole all kept n r there. absurd (bare off n r there) }))
         (λ ch on by also.
-        let aged : keeps_write_list s.settings ≡ true → AgesOut s terms course (after_run s ch) = λ kept. rested_ages_out says s before terms ch course valid.consistent valid.rising kept by.0 order (λ whole all. also.1.rests whole all kept) in
+        let aged : keeps_write_list s.settings ≡ true → AgesOut s terms course (after_run s ch) = λ kept. rested_ages_out says s before terms ch course valid.consistent valid.rising kept by.0 order (λ whole all. (let swept = also.1.swept kept in (swept.0, swept.1, swept.2, swept.3.rest whole (inl all)))) in
         subst (AgesOut s terms course) (sym by.1) (record { live = λ whole all kept. (aged kept).live whole all kept; invalid = λ whole all kept. (aged kept).invalid whole all kept })) run.0
       where
         bare : is_disabled s.capacity ≡ true → (n : ℕ) (r : Record K V) → get s.records n ≡ Some r → ⊥

@@ -67,7 +67,7 @@ module _ {K V X P W : Type 0} (s : State K V X P W) (bare : IsBare s.records s.a
       cut = λ cut. absurd (never_cut s.settings.listening terms.limit cut);
       more = λ whole is. absurd (true≢false (sym is));
       unfinished = λ whole left some. absurd (true≢false (sym some ∙ ap (list_any (λ a. is_settled s.records a.number)) bare.no_members));
-      idle = λ enabled uncut none. absurd (true≢false (sym disabled ∙ enabled));
+      idle = λ enabled none. absurd (true≢false (sym disabled ∙ enabled));
       count_high = rw bare.no_count (omega arith);
       count_low = let none : len s.records ≡ 0 = sym (bare_is_exact s bare).count ∙ bare.no_count in rw none (omega arith);
     }
@@ -79,8 +79,8 @@ module _ {K V X P W : Type 0} (s : State K V X P W) (bare : IsBare s.records s.a
         exact = λ all. bare_is_exact s bare;
         within = λ whole all. is_within;
         expired = λ all never n r there. absurd (not_there n r there);
-        predicates = λ all enabled supported enough. absurd (true≢false (sym disabled ∙ enabled));
-        covered = λ all enabled supported enough p n r is there covers. not_there n r there;
+        predicates = λ all enabled enough. absurd (true≢false (sym disabled ∙ enabled));
+        covered = λ all enough p n r is there covers. not_there n r there;
       }
 
       -- with all that is promised of it

@@ -4,7 +4,7 @@ use Rattle.std.proofs.lemmas.List.{map_push}
 use Rattle.moka_parts.proofs.Types.{Call, Reply, RemovalCause, Notice, State, Meaning, Terms, Course, Freedom, Engine, Step}
 use Rattle.moka_parts.specs.State.{is_disabled}
 use Rattle.moka_parts.specs.Maintenance.{RunsBy, DoesNothing, MaintenanceRun}
-use Rattle.moka_parts.specs.Bounds.{IsBounded}
+use Rattle.moka_parts.specs.Bounds.{HasBounds}
 use Rattle.moka_parts.specs.Surroundings.{Leads, NoticeStep, Heard}
 use Rattle.moka_parts.specs.Runs.{PromisedRun, Befalls, CallStep, AreSteps, MakesCalls, passes_after, last_passes, last_state, notices_of, readings_of, ids_of}
 use Rattle.std.proofs.lemmas.Grind.{flat_map-append}
@@ -65,7 +65,7 @@ MakesCalls_push m Runs calls replies steps old mid new c1 c2 c3 i1 i2 i3 x h k s
 -- a run that keeps its promises is a run of the reference cache
 pub promised_is_run : {K V X P W : Type 0} (says : P → K → V → Bool → Type 0) (read : X → K → V → ℕ → Option ℕ → ℕ → Option ℕ) (s : State K V X P W) (terms : Terms) (course : Course) (ns : List (Notice K V)) (t : State K V X P W) → PromisedRun says read s terms course ns t → MaintenanceRun says s terms course ns t
 promised_is_run says read s terms course ns t h = (
-  elim (is_disabled s.capacity) as (λ b. MatchBool b (DoesNothing s course ns t) ((ch : Freedom) × RunsBy says s terms ch course ns t × IsBounded says s terms ch course) → MatchBool b (DoesNothing s course ns t) ((ch : Freedom) × RunsBy says s terms ch course ns t × Unit {0})) [
+  elim (is_disabled s.capacity) as (λ b. MatchBool b (DoesNothing s course ns t) ((ch : Freedom) × RunsBy says s terms ch course ns t × HasBounds says read s terms ch course) → MatchBool b (DoesNothing s course ns t) ((ch : Freedom) × RunsBy says s terms ch course ns t × Unit {0})) [
     | true ↦ λ h. h
     | false ↦ λ x. (x.0, x.1, tt)
   ] h.0,

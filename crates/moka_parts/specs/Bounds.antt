@@ -1,5 +1,5 @@
 -- What a run costs, in which order it works, and which surplus it removes.
-use Rattle.std.specs.Prelude.{◌≡◌, ℕ, Bool, true, false, not, ◌+◌, ◌-◌, ◌*◌, ◌/◌, ◌<◌, ◌≤◌, ◌⊎◌, List, [], ◌∷◌, ◌++◌, length, take, Some, if◌then◌else◌}
+use Rattle.std.specs.Prelude.{◌≡◌, ℕ, Bool, true, false, not, ◌+◌, ◌-◌, ◌*◌, ◌/◌, ◌≤◌, ◌⊎◌, List, [], ◌∷◌, ◌++◌, length, take, Option, Some, if◌then◌else◌}
 use Rattle.std.specs.List.{list_all, list_any}
 use Rattle.std.specs.FinMap.{get}
 use Rattle.moka_parts.specs.declared.records.Record.{Record}
@@ -11,7 +11,8 @@ use Rattle.moka_parts.specs.Candidates.{prefix}
 use Rattle.moka_parts.specs.Maintenance.{Choice, Freedom, Removes, MovesToBack, Drops, Terms, Course, is_timed, is_late, is_cut, after_choices, before_steps, at_end, kept_by_choices, tests_of}
 use Rattle.moka_parts.specs.Exact.{IsWithin}
 use Rattle.moka_parts.specs.Grounds.{AreDrops, FollowsGrounds, IsAtRestByRead, grounds_of}
-use Rattle.moka_parts.specs.Settling.{IsWhole, IsAllSent}
+use Rattle.moka_parts.specs.Order.{write_list_before_steps}
+use Rattle.moka_parts.specs.Settling.{IsWhole, IsAllSent, NeverRenewsOnRead}
 
 -- the numbers of the records that the steps remove, in order
 abbrev pub removed_by : List Choice → List ℕ
@@ -24,7 +25,6 @@ removed_by (Drops i ∷ xs) = removed_by xs
 pub record IsPlainSurplus {K V X P W : Type 0} (s : State K V X P W) (now capacity : ℕ)
     (c : Contents K V) : Type 0 where
   pub limited : s.capacity ≡ Some capacity
-  pub over : capacity < total_weight c.access
   pub settled : list_all (λ a. is_settled c.records a.number) c.access ≡ true
   pub fresh : (n : ℕ) (r : Record K V) → get c.records n ≡ Some r → has_lapsed s.settings s.invalid_before r now ≡ false
   pub no_predicate : s.predicates ≡ []
@@ -41,8 +41,9 @@ pub record EndsSweep {K V X P W : Type 0} (s : State K V X P W) (terms : Terms) 
   pub rest : IsWhole s terms course →
       IsAllSent s ⊎ (list_any (λ a. not (is_settled c.records a.number)) c.access ≡ false) → IsAtRest c
 
--- what a run costs, in which order its steps stand, and what it removes
-pub record IsBounded {K V X P W : Type 0} (says : P → K → V → Bool → Type 0) (s : State K V X P W) (terms : Terms)
+-- what a run costs, in which order its steps stand, and what it removes, from this write list
+pub record IsBounded {K V X P W : Type 0} (says : P → K → V → Bool → Type 0)
+    (read : X → K → V → ℕ → Option ℕ → ℕ → Option ℕ) (write_list : List ℕ) (s : State K V X P W) (terms : Terms)
     (ch : Freedom) (course : Course) : Type 0 where
   -- the steps are gone through at least once
   pub made : 1 ≤ course.passes
@@ -57,12 +58,12 @@ pub record IsBounded {K V X P W : Type 0} (says : P → K → V → Bool → Typ
   -- it ends with the first reading that is late
   pub ends : is_late terms.limit (take (length course.readings - 1) course.readings) ≡ false
   -- the steps of each pass stand in their order, each with its own grounds and causes, each but that of the timers is
-  -- made of at most a batch of choices, and those along the access list and the scan end as they are to; at last
-  -- predicates are dropped, and what is spared is covered by none that is left
+  -- made of at most a batch of choices, and each ends as it is to; at last predicates are dropped, and what is spared is
+  -- covered by none that is left
   pub in_order : (taken dropped : List Choice) × (ch.steps ≡ taken ++ dropped) × AreDrops dropped
       × FollowsGrounds (SomeCovers says s.predicates) (tests_of s terms.now)
-      (NoneCovers says (kept_by_choices s.predicates dropped)) (keeps_write_list s.settings) terms.batch
-      (grounds_of course.passes) (before_steps s ch) taken
+      (NoneCovers says (kept_by_choices s.predicates dropped)) (NeverRenewsOnRead read s) (keeps_write_list s.settings)
+      terms.batch (grounds_of course.passes) (before_steps s ch) (write_list_before_steps s write_list ch) taken
   -- without predicates its passes but the last make, together, at least a batch of choices for each of them
   pub full : s.predicates ≡ [] → (course.passes - 1) * terms.batch ≤ length ch.steps
   -- where the sweep by the last read ended, after some of the choices, and that of the surplus, after all
@@ -81,3 +82,8 @@ pub record IsBounded {K V X P W : Type 0} (says : P → K → V → Bool → Typ
   pub cut_surplus : (capacity : ℕ) → IsPlainSurplus s terms.now capacity (before_steps s ch) →
       is_cut s.settings terms course ≡ true → course.passes ≡ 1 →
       removed_by ch.steps ≡ numbers_of (take terms.batch (before_steps s ch).access)
+
+-- the same from some write list
+abbrev pub HasBounds : {K V X P W : Type 0} → (P → K → V → Bool → Type 0) →
+    (X → K → V → ℕ → Option ℕ → ℕ → Option ℕ) → State K V X P W → Terms → Freedom → Course → Type 0
+HasBounds says read s terms ch course = (write_list : List ℕ) × IsBounded says read write_list s terms ch course

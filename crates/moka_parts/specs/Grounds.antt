@@ -1,10 +1,11 @@
 -- The grounds on which a pass removes records: the cause that each tells, and their order.
-use Rattle.std.specs.Prelude.{◌≡◌, ℕ, zero, suc, Bool, true, false, ◌&&◌, ◌==◌, ◌+◌, ◌≤◌, ◌⊎◌, List, [], ◌∷◌, ◌++◌, length, Option, Some, None, if◌then◌else◌}
+use Rattle.std.specs.Prelude.{◌≡◌, ℕ, zero, suc, Bool, true, false, ◌&&◌, ◌==◌, ◌+◌, ◌≤◌, ◌⊎◌, List, [], ◌∷◌, ◌++◌, length, Option, Some, None, slice_get, if◌then◌else◌, ⊤}
 use Rattle.std.specs.FinMap.{get}
 use Rattle.std.specs.List.{IsDistinct}
 use Rattle.moka_parts.specs.declared.notification.RemovalCause.{RemovalCause}
 use Rattle.moka_parts.specs.declared.notification.RemovalCause.TheVariants.{Expired, Explicit, Size}
 use Rattle.moka_parts.specs.declared.records.Record.{Record}
+use Rattle.moka_parts.specs.Order.{IsAtRestByWrite, written_after_choice, written_after_choices}
 use Rattle.moka_parts.specs.Records.{is_applied, is_listed, is_member, is_settled, settled_members, settled_numbers}
 use Rattle.moka_parts.specs.State.{Contents}
 use Rattle.moka_parts.specs.Visibility.{is_expired, is_written_before, is_read_before}
@@ -67,6 +68,21 @@ module _ {K V : Type 0} (q : Tests) where
   IsAtRestByRead c = (n : ℕ) (r : Record K V) → is_front n c.access ≡ true → get c.records n ≡ Some r
       → (is_past_read q r ≡ false) × (is_read_before q.invalid_before r ≡ false)
 
+  -- the number is the one to which the step has come: a sweep takes the front of its order, and one of the surplus only
+  -- while the capacity is exceeded
+  abbrev pub IsTurnOf : Bool → Ground → Contents K V → List ℕ → ℕ → Type 0
+  IsTurnOf ordered ByTimer c write_list n = ⊤
+  IsTurnOf ordered ByWrite c write_list n = ordered ≡ true → slice_get write_list 0 ≡ Some n
+  IsTurnOf ordered ByRead c write_list n = is_front n c.access ≡ true
+  IsTurnOf ordered ByPredicate c write_list n = ⊤
+  IsTurnOf ordered BySurplus c write_list n = (is_front n c.access && is_over q.capacity c.access) ≡ true
+
+  -- the choice is made of the number to which the step has come
+  abbrev pub IsInTurn : Bool → Ground → Contents K V → List ℕ → Choice → Type 0
+  IsInTurn ordered g c write_list (Removes n cause) = IsTurnOf ordered g c write_list n
+  IsInTurn ordered g c write_list (MovesToBack n) = IsTurnOf ordered g c write_list n
+  IsInTurn ordered g c write_list (Drops i) = ⊥
+
 -- `Spared` says which records no predicate covers
 module _ {K V : Type 0} (Spared : Record K V → Type 0) where
   -- how far a scan went, whose choices are the removals of some that it passed
@@ -80,16 +96,19 @@ module _ {K V : Type 0} (Spared : Record K V → Type 0) where
     pub used : (batch ≤ choices + length (settled_numbers c.records passed))
         ⊎ ((n : ℕ) → is_member n c.access ≡ true → is_listed n passed ≡ true)
 
-  -- where the step ended, if it went along the access list: it came to rest, or no member is settled, or it made all
-  -- its choices. A scan goes along the order of writing, if that is kept
-  module _ (ordered : Bool) (q : Tests) where
-    abbrev pub EndsStep : Ground → ℕ → ℕ → Contents K V → Type 0
-    EndsStep ByTimer batch choices c = Unit {0}
-    EndsStep ByWrite batch choices c = Unit {0}
-    EndsStep ByRead batch choices c = IsAtRestByRead q c
+  -- where the step ended: a sweep came to rest, or no member is settled, or it made all its choices; by timers no settled
+  -- member is left whose own expiry has come, where those are on time; a scan goes along the order of writing, if that is
+  -- kept, and the sweep by the last write goes by this list
+  module _ (OnTime : Type 0) (ordered : Bool) (q : Tests) where
+    abbrev pub EndsStep : Ground → ℕ → ℕ → Contents K V → List ℕ → Type 0
+    EndsStep ByTimer batch choices c write_list = OnTime → (n : ℕ) (r : Record K V) → get c.records n ≡ Some r
+        → is_member n c.access ≡ true → is_applied r ≡ true → is_expired r q.now ≡ false
+    EndsStep ByWrite batch choices c write_list = ordered ≡ true → IsAtRestByWrite q c.records write_list
         ⊎ ((settled_members c.records c.access ≡ []) ⊎ (batch ≤ choices))
-    EndsStep ByPredicate batch choices c = ordered ≡ true → EndsScan batch choices c
-    EndsStep BySurplus batch choices c = IsWithin q.capacity c.access
+    EndsStep ByRead batch choices c write_list = IsAtRestByRead q c
+        ⊎ ((settled_members c.records c.access ≡ []) ⊎ (batch ≤ choices))
+    EndsStep ByPredicate batch choices c write_list = ordered ≡ true → EndsScan batch choices c
+    EndsStep BySurplus batch choices c write_list = IsWithin q.capacity c.access
         ⊎ ((settled_members c.records c.access ≡ []) ⊎ (batch ≤ choices))
 
 -- `Covered` says which records are covered by a predicate
@@ -110,18 +129,21 @@ module _ {K V : Type 0} (Covered : Record K V → Type 0) (q : Tests) where
   MayTake g c (Drops i) = ⊥
 
   -- all choices are the step's
-  abbrev pub AreTaken : Ground → Contents K V → List Choice → Type 0
-  AreTaken g c [] = Unit {0}
-  AreTaken g c (x ∷ xs) = MayTake g c x × AreTaken g (after_choice c x) xs
+  abbrev pub AreTaken : Bool → Ground → Contents K V → List ℕ → List Choice → Type 0
+  AreTaken ordered g c write_list [] = ⊤
+  AreTaken ordered g c write_list (x ∷ xs) = (IsInTurn q ordered g c write_list x × MayTake g c x)
+      × AreTaken ordered g (after_choice c x) (written_after_choice write_list x) xs
 
-  module _ (Spared : Record K V → Type 0) (ordered : Bool) (batch : ℕ) where
+  module _ (Spared : Record K V → Type 0) (OnTime : Type 0) (ordered : Bool) (batch : ℕ) where
     -- the choices are those of these steps, one step after the other
-    abbrev pub FollowsGrounds : List Ground → Contents K V → List Choice → Type 0
-    FollowsGrounds [] c xs = xs ≡ []
-    FollowsGrounds (g ∷ gs) c xs = (first later : List Choice) × (xs ≡ first ++ later) × AreTaken g c first
+    abbrev pub FollowsGrounds : List Ground → Contents K V → List ℕ → List Choice → Type 0
+    FollowsGrounds [] c write_list xs = xs ≡ []
+    FollowsGrounds (g ∷ gs) c write_list xs = (first later : List Choice) × (xs ≡ first ++ later)
+        × AreTaken ordered g c write_list first
         × ((is_batched g ≡ true → length first ≤ batch)
-        × EndsStep Spared ordered q g batch (length first) (after_choices c first))
-        × FollowsGrounds gs (after_choices c first) later
+        × EndsStep Spared OnTime ordered q g batch (length first) (after_choices c first)
+        (written_after_choices write_list first))
+        × FollowsGrounds gs (after_choices c first) (written_after_choices write_list first) later
 
 -- each choice drops a predicate
 abbrev pub AreDrops : List Choice → Type 0

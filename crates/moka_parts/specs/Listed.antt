@@ -3,18 +3,14 @@ use Rattle.std.specs.Prelude.{◌≡◌, ℕ, Bool, true, List, [], ◌∷◌, �
 use Rattle.moka_parts.specs.Records.{Notice}
 use Rattle.moka_parts.specs.State.{State, Meaning, is_disabled, keeps_write_list}
 use Rattle.moka_parts.specs.Maintenance.{Choice, Freedom, Terms, Course, RunsWith, after_choices, before_steps, tests_of}
-use Rattle.moka_parts.specs.Settling.{IsWhole, IsAllSent}
 use Rattle.moka_parts.specs.Bounds.{IsBounded, EndsSweep}
-use Rattle.moka_parts.specs.Order.{ComesToRest, IsAtRestByWrite, write_list_at_end, write_list_before_steps, written_after_choices}
+use Rattle.moka_parts.specs.Order.{IsAtRestByWrite, write_list_at_end, write_list_before_steps, written_after_choices}
 use Rattle.moka_parts.specs.Runs.{EndsWell, CallStep, Step}
 
 -- what a run by these choices makes of the write list, where it is kept
 pub record LeavesList {K V X P W : Type 0} (before after : List ℕ) (s : State K V X P W) (terms : Terms) (ch : Freedom)
     (course : Course) : Type 0 where
   pub list : keeps_write_list s.settings ≡ true → after ≡ write_list_at_end s before ch
-  -- a whole run with all sent comes to rest by the write list
-  pub rests : IsWhole s terms course → IsAllSent s → keeps_write_list s.settings ≡ true →
-      ComesToRest s before ch terms.now
   -- where the last sweep by the write list ended, after some of the choices
   pub swept : keeps_write_list s.settings ≡ true → (first second : List Choice) × (ch.steps ≡ first ++ second)
       × EndsSweep s terms course (λ c. IsAtRestByWrite (tests_of s terms.now) c.records
@@ -29,7 +25,7 @@ module _ {K V X P W : Type 0} (says : P → K → V → Bool → Type 0) (read :
   ListedRun s terms course notices t =
       RunsWith says (λ s terms course t. EndsWell says read s terms course t
       × (is_disabled s.capacity ≡ true → after ≡ before))
-      (λ s terms ch course. IsBounded says s terms ch course
+      (λ s terms ch course. IsBounded says read before s terms ch course
       × LeavesList before after s terms ch course) s terms course notices t
 
 module _ {K V X L P W C I : Type 0} (m : Meaning K V X L P W C I) where

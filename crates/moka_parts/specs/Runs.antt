@@ -13,7 +13,7 @@ use Rattle.moka_parts.specs.Records.{Notice}
 use Rattle.moka_parts.specs.State.{State, Meaning, Events, is_disabled}
 use Rattle.moka_parts.specs.Maintenance.{Terms, Course, RunsWith, MaintenanceRun}
 use Rattle.moka_parts.specs.Settling.{LeavesBehind, Settles}
-use Rattle.moka_parts.specs.Bounds.{IsBounded}
+use Rattle.moka_parts.specs.Bounds.{HasBounds}
 use Rattle.moka_parts.specs.Order.{IsOrderly, AgesOut}
 use Rattle.moka_parts.specs.Housekeeping.{without_automatic}
 use Rattle.moka_parts.specs.Surroundings.{Heard}
@@ -185,12 +185,12 @@ module _ {K V X P W : Type 0} (says : P → K → V → Bool → Type 0) (read :
 
   -- a run of maintenance with all that is promised of it
   abbrev pub PromisedRun : State K V X P W → Terms → Course → List (Notice K V) → State K V X P W → Type 0
-  PromisedRun s terms course notices t = RunsWith says EndsWell (IsBounded says) s terms course notices t
+  PromisedRun s terms course notices t = RunsWith says EndsWell (HasBounds says read) s terms course notices t
 
   -- the same, where a whole run also removes what is past its time
   abbrev pub OrderlyRun : State K V X P W → Terms → Course → List (Notice K V) → State K V X P W → Type 0
   OrderlyRun s terms course notices t = RunsWith says (λ s terms course t. EndsWell s terms course t
-      × AgesOut s terms course t) (IsBounded says) s terms course notices t
+      × AgesOut s terms course t) (HasBounds says read) s terms course notices t
 
 -- nothing is kept and nothing waits
 pub record IsEmpty {K V X P W : Type 0} (s : State K V X P W) : Type 0 where

@@ -153,8 +153,7 @@ pub record LeavesBehind {K V X P W : Type 0} (s : State K V X P W) (terms : Term
   -- and does so where one is left beside a settled member
   pub unfinished : IsWhole s terms course → 0 < length t.predicates → has_settled_member t ≡ true → course.answer ≡ true
   -- with a batch of 0 it leaves more where there is anything to test records by
-  pub idle : is_disabled s.capacity ≡ false → is_cut s.settings terms course ≡ false → terms.batch ≡ 0 →
-      course.answer ≡ leaves_more_idle t
+  pub idle : is_disabled s.capacity ≡ false → terms.batch ≡ 0 → course.answer ≡ leaves_more_idle t
   -- the reported count is off by no more than the operations not sent
   pub count_high : t.count ≤ len t.records + len t.outstanding
   pub count_low : len t.records ≤ t.count + len t.outstanding
@@ -174,9 +173,7 @@ pub record Settles {K V X P W : Type 0} (says : P → K → V → Bool → Type 
   pub expired : IsAllSent s → NeverRenewsOnRead read s → (n : ℕ) (r : Record K V) →
       get t.records n ≡ Some r → is_expired r terms.now ≡ false
   -- with a batch for all records no predicate is left
-  pub predicates : IsAllSent s → is_disabled s.capacity ≡ false → s.settings.invalidator ≡ true →
-      len s.records ≤ terms.batch → t.predicates ≡ []
+  pub predicates : IsAllSent s → is_disabled s.capacity ≡ false → len s.records ≤ terms.batch → t.predicates ≡ []
   -- and none of the records that one covered
-  pub covered : IsAllSent s → is_disabled s.capacity ≡ false → s.settings.invalidator ≡ true →
-      len s.records ≤ terms.batch → (p : Registered P) (n : ℕ) (r : Record K V) → Contains s.predicates p →
-      get t.records n ≡ Some r → Covers says p r → ⊥
+  pub covered : IsAllSent s → len s.records ≤ terms.batch → (p : Registered P) (n : ℕ) (r : Record K V) →
+      Contains s.predicates p → get t.records n ≡ Some r → Covers says p r → ⊥

@@ -18,9 +18,6 @@ use Rattle.moka_store.specs.StoreTies.{KeyIndex, IsNamed, IsTied}
 use Rattle.moka_parts.specs.declared.records.Record.{Record}
 use Rattle.moka_parts.specs.Records.{counted_of, without_member}
 
-Rows : Type 0 → Type 0 → Type 0
-Rows K V = List (Option (Row (Record K V)))
-
 -- ---- what is read of a row, before and after a change
 
 module _ {R : Type 0} (old new : ℕ → Option (Row R)) (place : ℕ) (o : Option (Row R)) (c : ChangesAt old new place o) where

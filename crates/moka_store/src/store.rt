@@ -561,7 +561,7 @@ impl<K: Eq + Hash, V, S: BuildHasher> Store<K, V, S> {
         ensures { IfOk result (λ keys. AreKeysOf K.is_clone self.now.records keys.items) }
     {
         let mut keys = Vec::with_capacity(alloc, self.record_count())?;
-        for place in 0..self.table.capacity() {
+        for place in 0..self.table.place_count() {
             if let Some(stored) = self.table.record(place) {
                 keys.push(stored.key().clone()?)?;
             }

@@ -27,19 +27,7 @@ module _ {K V X P W : Type 0} where
     pub sent : IfOk a (λ _. IsSent ticket s t)
     pub held : HoldsUnsent s t
 
-  -- at once
-  pub at_once : (s : State K V X P W) (ticket : ℕ) (a : Result (Unit {0}) SendError) (t : State K V X P W) → (a ≡ Err QueueFull → ⊥) → SendStep s ticket a t → ComesTo s ticket a t
-  at_once s ticket a t room step = go (get s.outstanding ticket) refl a room step (λ n r older held. subst (IsHeld n r) (sym (send_holds s ticket a t step)) held)
-    where
-      go : (o : Option Operation) → get s.outstanding ticket ≡ o → (a : Result (Unit {0}) SendError) → (a ≡ Err QueueFull → ⊥) → SendsAt s ticket o a t → HoldsUnsent s t → ComesTo s ticket a t
-      go (Some o) there (Ok u) room h held = record { refused = tt; unchanged = tt; sent = (o, there, ap (λ x. x.outstanding) h.1); held = held }
-      go (Some o) there (Err QueueFull) room h held = absurd (room refl)
-      go (Some o) there (Err UnknownTicket) room h held = absurd h
-      go None there (Err UnknownTicket) room h held = record { refused = (refl, there); unchanged = h; sent = tt; held = held }
-      go None there (Err QueueFull) room h held = absurd h
-      go None there (Ok u) room h held = absurd h
-
-  -- or after a run
+  -- after a run
   module _ (says : P → K → V → Bool → Type 0) (read : X → K → V → ℕ → Option ℕ → ℕ → Option ℕ) (before after : List ℕ) where
     pub after_run : (s full : State K V X P W) (ticket : ℕ) → is_disabled s.capacity ≡ false → SendStep s ticket (Err QueueFull) full → (terms : Terms) (more : Bool) (e : Events K V) (emptied : State K V X P W) → RunStep (ListedRun says read before after) full terms more e emptied
         → (a : Result (Unit {0}) SendError) (t : State K V X P W) → SendStep emptied ticket a t → ComesTo s ticket a t

@@ -15,9 +15,6 @@ use Rattle.moka_wheel.proofs.Moves.{start, stays-while, near-along, past-first, 
 abbrev pub bucket : Entry → ℕ
 bucket e = e.bucket
 
-abbrev moment : Entry → ℕ
-moment e = e.at
-
 -- an entry in another bucket
 abbrev put_in : ℕ → Entry → Entry
 put_in k e = record e { bucket = k }

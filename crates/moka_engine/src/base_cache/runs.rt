@@ -1,5 +1,5 @@
 //! Runs of maintenance. moka: `sync::base_cache::Inner::do_run_pending_tasks`.
-ghost use Rattle.std.specs.Prelude.{◌≡◌, length, min, option_map, None, Some, true, false, if◌then◌else◌};
+ghost use Rattle.std.specs.Prelude.{◌≡◌, length, min, option_map, None, true, false, if◌then◌else◌};
 ghost use Rattle.std.specs.Duration.{as_nanos};
 ghost use Rattle.std.specs.FinMap as finite;
 ghost use Rattle.moka_parts.specs.Calls.{KeeperRun, RecordsRead, RunsIfDue, no_events};

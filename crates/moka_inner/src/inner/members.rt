@@ -13,7 +13,7 @@ use moka_maintenance::queued::PlacedWrite;
 use moka_parts::calls::Ticket;
 use moka_parts::policy::Instant;
 use moka_parts::record_ref::RecordRef;
-use moka_parts::records::{Operation, Record};
+use moka_parts::records::Operation;
 use moka_store::{Handle, Update};
 use std::hash::{BuildHasher, Hash};
 

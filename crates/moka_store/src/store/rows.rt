@@ -12,7 +12,7 @@ impl<K: Eq + Hash, V, S: BuildHasher> Store<K, V, S> {
         ensures places { (n place : ℕ) → finite.get self.now.places n ≡ Some place → place < result }
         ensures rowed { (n : ℕ) → IsSome (finite.get self.now.records n) → IsSome (finite.get self.now.places n) }
     {
-        self.table.capacity()
+        self.table.place_count()
     }
 
     /// The record at this place, if there is one.

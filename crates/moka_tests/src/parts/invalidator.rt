@@ -5,7 +5,6 @@ use moka_parts::policy::Instant;
 use moka_parts::record_ref::{self, RecordRef};
 use moka_parts::records::Record;
 use std::cell::Cell;
-use std::test::Fail;
 use uuid::Uuid;
 
 // Says yes to one value, and counts how often it is asked.

@@ -6,13 +6,11 @@ use crate::support::prelude::*;
 use crate::engine::moka_cache::cache::Cache;
 pub use crate::engine::moka_calls::many::{GetManyRefused, InsertManyRefused, InvalidateManyRefused};
 use crate::engine::moka_parts::closures::{PredicateFn, Weigher};
-use crate::engine::moka_parts::error::{InsertRefused, OutOfMemory};
 use crate::engine::moka_parts::housekeeper::Clock;
 use crate::engine::moka_parts::notification::Listener;
 use crate::engine::moka_parts::policy::{Expiry, Instant};
 use crate::support::alloc::Global;
 use crate::support::hash::{BuildHasher, Hash};
-use std::vec::IntoIter;
 
 impl<
     K: Eq + Hash,

@@ -339,7 +339,7 @@ impl<K: Eq + Hash, V, S: BuildHasher> Store<K, V, S> {
         K: Clone,
     {
         let mut keys = Vec::with_capacity(alloc, self.record_count())?;
-        for place in 0..self.table.capacity() {
+        for place in 0..self.table.place_count() {
             if let Some(stored) = self.table.record(place) {
                 keys.push(stored.key().try_clone()?)?;
             }

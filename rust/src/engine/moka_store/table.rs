@@ -52,6 +52,12 @@ impl<K, V> RecordTable<K, V> {
         self.fit
     }
 
+    /// How many places have been given out: every place is less.
+    pub fn place_count(&self) -> usize
+    {
+        self.cold.len()
+    }
+
     /// Makes room for `additional` more rows, and changes nothing where there is room.
     pub fn reserve(&mut self, additional: usize) -> Result<(), AllocError>
     {

@@ -7,7 +7,7 @@ use crate::engine::moka_maintenance::queued::PlacedWrite;
 use crate::engine::moka_parts::calls::Ticket;
 use crate::engine::moka_parts::policy::Instant;
 use crate::engine::moka_parts::record_ref::RecordRef;
-use crate::engine::moka_parts::records::{Operation, Record};
+use crate::engine::moka_parts::records::Operation;
 use crate::engine::moka_store::{Handle, Update};
 use crate::support::hash::{BuildHasher, Hash};
 

@@ -10,7 +10,7 @@ impl<K: Eq + Hash, V, S: BuildHasher> Store<K, V, S> {
     /// Each row's place is less than this, and each record has a row.
     pub fn place_count(&self) -> usize
     {
-        self.table.capacity()
+        self.table.place_count()
     }
 
     /// The record at this place, if there is one.

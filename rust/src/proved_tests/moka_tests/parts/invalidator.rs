@@ -9,7 +9,6 @@ use crate::engine::moka_parts::policy::Instant;
 use crate::engine::moka_parts::record_ref::{self, RecordRef};
 use crate::engine::moka_parts::records::Record;
 use std::cell::Cell;
-use crate::support::test::test::Fail;
 use crate::support::uuid::Uuid;
 
 // Says yes to one value, and counts how often it is asked.

@@ -24,4 +24,4 @@ loop-place-preserved g c =
     ]
 
 pub returns : goal.returns
-returns g c = rw (← c.self.view_is) (c.loop-place.invariant.0, subst (λ keys. IsPermutation keys c.loop-place.invariant.0) (listed-all c.self.inside.table.rows c.loop-place.place (omega (arith, c.capacity-place-end.ensures.places, c.loop-place-test.false))) c.loop-place.invariant.1, c.loop-place.invariant.2)
+returns g c = rw (← c.self.view_is) (c.loop-place.invariant.0, subst (λ keys. IsPermutation keys c.loop-place.invariant.0) (listed-all c.self.inside.table.rows c.loop-place.place (omega (arith, c.place_count-place-end.ensures, c.loop-place-test.false))) c.loop-place.invariant.1, c.loop-place.invariant.2)

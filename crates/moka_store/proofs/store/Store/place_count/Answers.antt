@@ -11,7 +11,7 @@ returns g c =
       places = rw (← c.self.view_is) (λ n place there.
           (let w = placed_row rows c.self.invariant.tied.numbered place n there in
           let within = row_at-within rows place w.0 w.1 in
-          let most = c.capacity.ensures.places in
+          let most = c.place_count.ensures in
           omega arith));
       rowed = rw (← c.self.view_is) (record-placed g.K.PartialEq.eq rows _ _ c.self.invariant.tied);
     }
