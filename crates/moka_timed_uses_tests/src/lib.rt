@@ -1,10 +1,12 @@
-//! Tests of the callers in `moka_uses` of caches that own their clock, and nothing else.
+//! Tests of the callers in `moka_timed_uses`, and nothing else.
 #![tactic(auto)]
 
 #[cfg(test)]
 mod borrowed;
 #[cfg(test)]
 mod logins;
+#[cfg(test)]
+mod profiles;
 #[cfg(test)]
 mod restarted;
 #[cfg(test)]

@@ -8,12 +8,5 @@ pub mod Told
 pub mod Ended
 pub mod Covered
 pub mod Followed
-pub mod LookedUp
-pub mod Idle
-pub mod Named
-pub mod Among
-pub mod Limited
-pub mod Bound
-pub mod LoggedOut
 pub mod Batched
 pub mod Visited

@@ -1,4 +1,4 @@
-//! Tests of the callers in `moka_uses`, but for those that `moka_timed_uses_tests` runs, and nothing else.
+//! Tests of the callers in `moka_uses`, and nothing else.
 #![tactic(auto)]
 
 #[cfg(test)]
@@ -16,10 +16,6 @@ mod makers;
 #[cfg(test)]
 mod owners;
 #[cfg(test)]
-mod profiles;
-#[cfg(test)]
 mod released;
-#[cfg(test)]
-mod shared;
 #[cfg(test)]
 mod visits;

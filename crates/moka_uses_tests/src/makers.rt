@@ -1,9 +1,5 @@
 //! Makers and sources that callers ask for a value.
 
-pub fn ten() -> u64 {
-    10
-}
-
 pub fn twenty() -> u64 {
     20
 }

@@ -2,10 +2,6 @@
 //! Makers and sources that callers ask for a value.
 use crate::support::prelude::*;
 
-pub fn ten() -> u64 {
-    10
-}
-
 pub fn twenty() -> u64 {
     20
 }

@@ -1,0 +1,6 @@
+//! Callers of a cache in segments, each proved, to be read and copied.
+#![tactic(auto)]
+
+pub mod shared;
+#[cfg(test)]
+mod tests;

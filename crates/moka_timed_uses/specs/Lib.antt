@@ -1,0 +1,6 @@
+pub mod ReadThrough
+pub mod Sessions
+pub mod Borrowed
+pub mod Restarted
+pub mod Logins
+pub mod Joined

@@ -1,0 +1,131 @@
+//! Sessions that outlast a restart: they are saved when the program ends, and put back when it starts again.
+ghost use Rattle.std.specs.Prelude.{◌≡◌, ◌==◌, ◌≤◌, false, length, IfOk, List, None, Some};
+ghost use Rattle.std.specs.Duration.{as_nanos};
+ghost use Rattle.moka_engine.specs.parts.Instant.{Instant};
+ghost use Rattle.moka_engine.specs.Config.{default_config};
+ghost use Rattle.moka_engine.specs.Snapshots.{scene_of};
+ghost use Rattle.moka_engine.specs.declared.base_cache.restores.Restored.{Restored};
+ghost use Rattle.moka_cache.specs.Saved.{HasOnlyMembers, AreSaved};
+ghost use Rattle.moka_uses.specs.Made.{plain_meaning};
+ghost use Rattle.moka_timed_uses.specs.Restarted.{AreAmong, AreBack, AreBegunAgain, AreHandedOver, ArePutBack, Runs};
+
+use crate::sessions::Sessions;
+use moka_cache::laws::made_again_answers_alike;
+use moka_engine::{CacheConfig, Clock, NoExpiry, NoPredicate, NoWeigher, OutOfMemory, Restored};
+use moka_timed::TimedCache;
+use std::alloc::Global;
+use std::time::Duration;
+
+/// The sessions that have not ended, the one used least recently first. None of them is left out. A run of maintenance
+/// is made before, and no other call.
+///
+/// # Errors
+/// `OutOfMemory`
+pub fn save<C: Clock>(
+    alloc: Global,
+    sessions: &mut Sessions<C>,
+) -> Result<Vec<Restored<u64, u64>>, OutOfMemory>
+    ensures members { HasOnlyMembers sessions.new.cache.engine.state }
+    ensures saved { (now : Instant) × (read : C) × C.reads sessions.old.clock now read
+        × IfOk result (λ saved. AreSaved (λ _ _ _ answer. answer ≡ false) (λ a b. b ≡ a) (λ a b. b ≡ a)
+        (scene_of sessions.new.cache.engine.state now.0) sessions.new.cache.engine.state.access saved.items)
+        × Runs (plain_meaning (λ a b. a == b) C.reads) now sessions.old.cache.engine read
+        sessions.new.cache.engine sessions.new.clock }
+{
+    sessions.save(alloc)
+}
+
+/// The sessions that were saved, but for those that have ended meanwhile. Each ends when it would have ended: if it
+/// is not used for the time `idle`, counted from its last use before the restart.
+///
+/// # Errors
+/// `OutOfMemory`, also if a user was saved twice or a session has an expiry of its own. Then the sessions are
+/// dropped.
+pub fn start_again<C: Clock + Drop>(
+    alloc: Global,
+    idle: Duration,
+    clock: C,
+    saved: Vec<Restored<u64, u64>>,
+) -> Result<Sessions<C>, OutOfMemory>
+    ensures idle { IfOk result (λ sessions. sessions.cache.engine.state.settings.time_to_idle ≡ Some (as_nanos idle)) }
+    ensures back { IfOk result (λ sessions. (begun : Instant) × (ticked : C) × C.reads clock begun ticked
+        × (now : Instant) × (read : C) × C.reads ticked now read
+        × AreBack sessions.cache.engine.state saved.items now.0
+        × ArePutBack (λ _ _ _ weight. weight ≡ 1) saved.items now.0 (as_nanos idle) sessions.cache.engine.state) }
+    ensures among { IfOk result (λ sessions. AreAmong sessions.cache.engine.state saved.items) }
+    ensures unbounded { IfOk result (λ sessions. sessions.cache.engine.state.capacity ≡ None) }
+    ensures made { IfOk result (λ sessions. AreBegunAgain (plain_meaning (λ a b. a == b) C.reads)
+        (record default_config { time_to_idle = Some (as_nanos idle) })
+        clock saved.items sessions.cache sessions.clock) }
+{
+    let config = CacheConfig::default().time_to_idle(idle);
+    let mut sessions = TimedCache::build(config, alloc, clock)?;
+    match sessions.restore(saved) {
+        Ok(()) => Ok(sessions),
+        Err(_) => Err(OutOfMemory),
+    }
+}
+
+/// As `start_again`, with at most so many sessions. If no more were saved, none is left out that has not ended.
+///
+/// # Errors
+/// `OutOfMemory`, also if a user was saved twice or a session has an expiry of its own. Then the sessions are
+/// dropped.
+pub fn start_again_within<C: Clock + Drop>(
+    alloc: Global,
+    idle: Duration,
+    capacity: u64,
+    clock: C,
+    saved: Vec<Restored<u64, u64>>,
+) -> Result<Sessions<C>, OutOfMemory>
+    ensures idle { IfOk result (λ sessions. sessions.cache.engine.state.settings.time_to_idle ≡ Some (as_nanos idle)) }
+    ensures bound { IfOk result (λ sessions. sessions.cache.engine.state.capacity ≡ Some capacity) }
+    ensures back { IfOk result (λ sessions. (begun : Instant) × (ticked : C) × C.reads clock begun ticked
+        × (now : Instant) × (read : C) × C.reads ticked now read
+        × (1 ≤ capacity → length saved.items ≤ capacity → AreBack sessions.cache.engine.state saved.items now.0)) }
+    ensures among { IfOk result (λ sessions. AreAmong sessions.cache.engine.state saved.items) }
+    ensures made { IfOk result (λ sessions. AreBegunAgain (plain_meaning (λ a b. a == b) C.reads)
+        (record default_config { time_to_idle = Some (as_nanos idle); max_capacity = Some capacity })
+        clock saved.items sessions.cache sessions.clock) }
+{
+    made_again_answers_alike::<u64, u64, NoExpiry, NoPredicate, NoWeigher>();
+    let config = CacheConfig::default()
+        .time_to_idle(idle)
+        .max_capacity(capacity);
+    let mut sessions = TimedCache::build(config, alloc, clock)?;
+    match sessions.restore(saved) {
+        Ok(()) => Ok(sessions),
+        Err(_) => Err(OutOfMemory),
+    }
+}
+
+/// New sessions in place of others. If those have the same idle time and no time to live, each user has the same
+/// session in both, from the moments on at which they were saved and put back, until either is used or changed.
+///
+/// # Errors
+/// `OutOfMemory`
+pub fn hand_over<C: Clock, D: Clock + Drop>(
+    alloc: Global,
+    sessions: &mut Sessions<C>,
+    idle: Duration,
+    clock: D,
+) -> Result<Sessions<D>, OutOfMemory>
+    ensures idle { IfOk result (λ again. again.cache.engine.state.settings.time_to_idle ≡ Some (as_nanos idle)) }
+    ensures begun { IfOk result (λ again. (saved : List (Restored _ _))
+        × AreBegunAgain (plain_meaning (λ a b. a == b) D.reads)
+        (record default_config { time_to_idle = Some (as_nanos idle) }) clock saved again.cache again.clock) }
+    ensures handed_over { (saved : Instant) × (read : C) × C.reads sessions.old.clock saved read
+        × Runs (plain_meaning (λ a b. a == b) C.reads) saved sessions.old.cache.engine read
+        sessions.new.cache.engine sessions.new.clock
+        × IfOk result (λ again. (begun : Instant) × (ticked : D) × D.reads clock begun ticked
+        × (put : Instant) × (read_again : D) × D.reads ticked put read_again
+        × AreHandedOver (λ _ _ _ answer. answer ≡ false)
+        (as_nanos idle) saved.0 put.0 sessions.new.cache.engine.state again.cache.engine.state) }
+{
+    made_again_answers_alike::<u64, u64, NoExpiry, NoPredicate, NoWeigher>();
+    let saved = save(alloc, sessions)?;
+    sessions.cache.engine().invariant_holds();
+    let again = start_again(alloc, idle, clock, saved)?;
+    again.cache.engine().invariant_holds();
+    Ok(again)
+}
