@@ -105,8 +105,8 @@ pub enum Op<V> {
     Remove,
 }
 
-/// What was done with an entry. Whether there was one is what the closure saw: an `insert` or `remove` of another
-/// thread may come between. moka: `ops::compute::CompResult`.
+/// What was done with an entry. Whether there was one is what the closure saw: an `insert`, a `remove` or a call that
+/// puts a missing value there may come between in another thread. moka: `ops::compute::CompResult`.
 #[derive(Debug)]
 pub enum CompResult<K, V> {
     /// There was none, and now there is this.

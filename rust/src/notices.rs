@@ -53,7 +53,9 @@ impl Telling {
     fn begins(&mut self, cache: usize, shard: usize) -> bool {
         if let Some(outer) = self.cache {
             if outer == cache || self.outer.contains(&cache) {
-                self.next.push_back((cache, shard));
+                if self.next.back() != Some(&(cache, shard)) {
+                    self.next.push_back((cache, shard));
+                }
                 return false;
             }
             self.outer.push(outer);

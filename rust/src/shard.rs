@@ -28,7 +28,7 @@ use std::convert::Infallible;
 use std::hash::Hash;
 use std::mem;
 use std::sync::Arc;
-use std::sync::atomic::{AtomicBool, Ordering::Relaxed};
+use std::sync::atomic::{AtomicBool, AtomicU64, Ordering::Relaxed};
 use std::time::Duration;
 
 // The listener is there always, since it counts.
@@ -83,6 +83,39 @@ impl<K: Eq + Hash, F: Fn(&K) -> bool> KeyTest<Key<'static, K>> for ByTest<'_, F>
     }
 }
 
+/// When the next visit to a shard is due, for all shards of a cache. One is due so often that each shard has one in the
+/// time after which it is quiet.
+#[derive(Clone)]
+pub(crate) struct Visits {
+    next: Arc<AtomicU64>,
+    every: u64,
+}
+
+impl Visits {
+    /// Those of so many shards. None is due if there is one alone, or if nothing can expire.
+    pub fn new(is_timed: bool, shards: u32) -> Self {
+        let every = if is_timed && shards > 1 {
+            QUIET / u64::from(shards)
+        } else {
+            u64::MAX
+        };
+        Visits {
+            next: Arc::new(AtomicU64::new(every)),
+            every,
+        }
+    }
+
+    fn next(&self) -> Instant {
+        Instant(self.next.load(Relaxed))
+    }
+
+    // Whether one is due at this moment. Then who asks makes it.
+    fn take(&self, now: Instant) -> bool {
+        let (due, next) = (self.next(), now.0.saturating_add(self.every));
+        due <= now && self.next.compare_exchange(due.0, next, Relaxed, Relaxed).is_ok()
+    }
+}
+
 /// A cache with one owner.
 pub(crate) struct Shard<K: 'static, V> {
     cache: Cache<K, V>,
@@ -90,9 +123,9 @@ pub(crate) struct Shard<K: 'static, V> {
     // The moment of the last call. It never goes back, and each invalidation has one of its own.
     now: Instant,
     calls_until_reading: u32,
-    // A call at this moment or later visits another shard, and the next one does so much later.
+    // No visit is due before this moment.
     visit_at: Instant,
-    visit_every: u64,
+    visits: Visits,
     is_visit_due: bool,
     // Look-ups of nobody's.
     unasked: u64,
@@ -101,34 +134,30 @@ pub(crate) struct Shard<K: 'static, V> {
     is_timed: bool,
     settings: Arc<Settings<K, V>>,
     capacity: Option<u64>,
-    // The capacity, if the runs that calls start make a single pass, which may leave more.
-    single_passes_within: Option<u64>,
     // What was counted beside the cache: by caches that a panic ended, of makers and of what was refused.
     counted: Stats,
 }
 
 impl<K: Eq + Hash + 'static, V> Shard<K, V> {
-    /// An empty shard of this capacity, one of so many. With equal starts all shards tell the same moments.
-    pub fn new(settings: Arc<Settings<K, V>>, capacity: Option<u64>, shards: u32, start: std::time::Instant) -> Self {
+    /// An empty shard of this capacity. With equal starts all shards tell the same moments.
+    pub fn new(
+        settings: Arc<Settings<K, V>>,
+        capacity: Option<u64>,
+        visits: Visits,
+        start: std::time::Instant,
+    ) -> Self {
         let clock = Elapsed(start);
-        let has_others = settings.is_timed() && shards > 1;
-        let visit_every = if has_others {
-            QUIET / u64::from(shards)
-        } else {
-            u64::MAX
-        };
         Shard {
             cache: cache(&settings, capacity, clock),
             clock,
             now: Instant(0),
             calls_until_reading: 0,
-            visit_at: Instant(visit_every),
-            visit_every,
+            visit_at: Instant(0),
+            visits,
             is_visit_due: false,
             unasked: 0,
             is_in_call: AtomicBool::new(false),
             is_timed: settings.is_timed(),
-            single_passes_within: capacity.filter(|_| settings.listener.is_some()),
             settings,
             capacity,
             counted: Stats::default(),
@@ -197,13 +226,16 @@ impl<K: Eq + Hash + 'static, V> Shard<K, V> {
         self.now
     }
 
-    // The caller is to visit another shard when the lock of this one is released.
+    // The caller is to visit another shard when the lock of this one is released, unless that of another shard is.
     #[cold]
     fn plan_visit(&mut self) {
-        self.visit_at = Instant(self.now.0.saturating_add(self.visit_every));
-        self.is_visit_due = true;
-        if let Some(teller) = self.teller() {
-            teller.remind();
+        let is_due = self.visits.take(self.now);
+        self.visit_at = self.visits.next();
+        if is_due {
+            self.is_visit_due = true;
+            if let Some(teller) = self.teller() {
+                teller.remind();
+            }
         }
     }
 
@@ -247,6 +279,7 @@ impl<K: Eq + Hash + 'static, V> Shard<K, V> {
     {
         let _nothing = self.change(|cache, clock| cache.get(&Key::at(0, 0), now, clock));
         self.unasked += 1;
+        self.keep_bound(now);
     }
 
     // A moment after all writes before this call, and before all after it.
@@ -282,6 +315,7 @@ impl<K: Eq + Hash + 'static, V> Shard<K, V> {
     {
         let now = self.read_clock();
         let found = self.change(|cache, clock| cache.get(key, now, clock));
+        self.keep_bound(now);
         found.ok().flatten()
     }
 
@@ -301,6 +335,7 @@ impl<K: Eq + Hash + 'static, V> Shard<K, V> {
     {
         let now = self.read_clock();
         let found = self.change_by(test, |cache, by, clock| cache.get_by(by, hash, now, clock));
+        self.keep_bound(now);
         found.ok().flatten()
     }
 
@@ -366,19 +401,18 @@ impl<K: Eq + Hash + 'static, V> Shard<K, V> {
         if let Err(refused) = self.change(|cache, clock| cache.insert(key, value, now, clock)) {
             self.refuse(refused.key, refused.value);
         }
-        if self.is_exceeded() {
+        self.keep_bound(now);
+    }
+
+    // One heavy entry may take the room of more light ones than leave in a single pass, or within the engine's limit of
+    // a run: if the run of this call has left more than the capacity, the rest leaves too.
+    #[inline]
+    fn keep_bound(&mut self, now: Instant) {
+        if self.capacity.is_some_and(|most| self.cache.weighted_size() > most) {
             self.make_room(now);
         }
     }
 
-    // Whether runs of a single pass have left more than the capacity.
-    #[inline]
-    fn is_exceeded(&self) -> bool {
-        self.single_passes_within
-            .is_some_and(|most| self.cache.weighted_size() > most)
-    }
-
-    // One heavy entry may take the room of more light ones than a single pass lets leave.
     #[cold]
     fn make_room(&mut self, now: Instant) {
         self.change(|cache, clock| cache.run_pending_tasks(now, clock));
@@ -430,6 +464,7 @@ impl<K: Eq + Hash + 'static, V> Shard<K, V> {
     {
         let now = self.read_clock();
         let removed = self.change_by(test, |cache, by, clock| cache.remove_by(by, hash, now, clock));
+        self.keep_bound(now);
         removed.unwrap_or_else(|NotTold { value, .. }| Some(value))
     }
 
@@ -440,6 +475,7 @@ impl<K: Eq + Hash + 'static, V> Shard<K, V> {
     {
         let (key, now) = (Key::at(hash, address(key)), self.read_clock());
         let removed = self.change(|cache, clock| cache.remove(&key, now, clock));
+        self.keep_bound(now);
         removed.unwrap_or_else(|NotTold { value, .. }| Some(value))
     }
 
@@ -544,7 +580,7 @@ impl<K: 'static, V> Shard<K, V> {
 
 // The engine's own limit of a run does not count the time of the caller's listener, which is notified after the run. So
 // the runs that calls start make a single pass then, which leaves the rest to the next calls, but for what exceeds the
-// capacity after an insert.
+// capacity.
 fn housekeeping(has_listener: bool) -> HousekeeperConfig {
     let mut config = HousekeeperConfig::default();
     if has_listener {

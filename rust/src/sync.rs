@@ -74,7 +74,7 @@ struct Shared<K: 'static, V, S> {
 /// calls the cache: if 1,024 notices are pending, that one may wait for it. Nor may it put back each value that leaves
 /// with `Size`: another leaves for it, so the call never ends. A call by which nothing left neither calls the listener
 /// nor waits for it. If a maker or a closure of an entry calls the cache, the listener may be called within it: then it
-/// must not have a value made or computed for that key.
+/// must not have a value made or computed for that key, nor for one whose maker or closure may wait for that key.
 ///
 /// The weigher, the expiry and predicates, `Eq` of keys and `Clone` of values may be called under the lock of a shard:
 /// they must neither call the cache nor wait for a lock that a thread holds while it calls the cache. The same holds
@@ -85,8 +85,9 @@ struct Shared<K: 'static, V, S> {
 /// If the weigher, the expiry, a predicate or the `Clone` of a value panics in the middle of a call, `get` among them,
 /// the shard is **emptied** by the next call for it: its entries are gone, and the listener is not notified of them.
 /// That is the whole cache if there is one shard, as by default with a weigher or a capacity below 2,048. The panic
-/// goes on to the caller whose call it was. A panic of `Eq`, `Hash` or `Drop`, of a maker of `get_with`, of a closure
-/// of an entry or of the listener changes nothing; after its first panic the listener is not notified again.
+/// goes on to the caller whose call it was. A panic of `Eq`, `Hash` or `Drop` (but that of what a predicate has
+/// captured), of a maker of `get_with`, of a closure of an entry or of the listener changes nothing; after its first
+/// panic the listener is not notified again.
 pub struct Cache<K: 'static, V, S = RandomState>(Arc<Shared<K, V, S>>);
 
 impl<K, V, S> Clone for Cache<K, V, S> {
@@ -290,7 +291,7 @@ where
         self.with_key(key, |shard, hash, test| shard.remove(hash, test))
     }
 
-    /// Removes a key's entry. The listener is notified.
+    /// Removes a key's entry. The listener is notified. As in `remove`, the value is cloned under the shard's lock.
     ///
     /// ```
     /// let cache = ravulemis::sync::Cache::new(100);

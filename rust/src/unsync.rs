@@ -17,7 +17,7 @@ pub use iter::Iter;
 use crate::key::Test;
 use crate::notices::{Notices, locked};
 use crate::settings::{Settings, setters};
-use crate::shard::Shard;
+use crate::shard::{Shard, Visits};
 use crate::{Entry, EvictionPolicy, Expiry, Policy, PredicateError, RemovalCause, Stats};
 use std::borrow::Borrow;
 use std::fmt;
@@ -35,8 +35,8 @@ pub type PredicateId = String;
 /// # Panics of the caller's own code
 /// If the weigher, the expiry, a predicate or the `Clone` of a value panics in the middle of a call, `get` among them,
 /// the cache is **emptied** by the next call that changes it: its entries are gone, and the listener is not notified of
-/// them. A panic of `Eq`, `Hash` or `Drop`, of a maker of `get_with` or of the listener changes nothing; after its
-/// first panic the listener is not notified again.
+/// them. A panic of `Eq`, `Hash` or `Drop` (but that of what a predicate has captured), of a maker of `get_with` or of
+/// the listener changes nothing; after its first panic the listener is not notified again.
 pub struct Cache<K: 'static, V, S = RandomState> {
     shard: Shard<K, V>,
     notices: Option<Notices<K, V>>,
@@ -173,7 +173,7 @@ impl<K: Eq + Hash + Sync + 'static, V: Clone + 'static> CacheBuilder<K, V> {
             .map(|listener| Notices::new(listener, Arc::default()));
         let capacity = settings.max_capacity;
         Cache {
-            shard: Shard::new(settings.clone(), capacity, 1, Instant::now()),
+            shard: Shard::new(settings.clone(), capacity, Visits::new(false, 1), Instant::now()),
             notices,
             hasher,
             settings,

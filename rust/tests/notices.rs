@@ -132,6 +132,28 @@ fn heavy_entries_exceed_no_capacity_where_there_is_a_listener() {
 }
 
 #[test]
+fn a_run_that_look_ups_or_removals_start_keeps_the_bound() {
+    type Call = fn(&Cache<u32, u32>, u32) -> Option<u32>;
+    let calls: [Call; 2] = [|cache, key| cache.get(&key), |cache, key| cache.remove(&key)];
+    for call in calls {
+        let cache = Cache::builder()
+            .max_capacity(500_000)
+            .weigher(|_, weight: &u32| *weight)
+            .eviction_policy(EvictionPolicy::lru())
+            .eviction_listener(|_, _, _| ())
+            .build();
+        (0..50_000).for_each(|key| cache.insert(key, 10));
+        cache.run_pending_tasks();
+        // Too few to start a run.
+        (50_000..50_020).for_each(|key| cache.insert(key, 50_000));
+        let found = (0..200).filter_map(|key| call(&cache, key)).count();
+        assert!(found > 0);
+        assert!(cache.weighted_size() <= 500_000, "they weigh {}", cache.weighted_size());
+        assert!(cache.contains_key(&50_019), "no run was made of the last");
+    }
+}
+
+#[test]
 fn the_turn_to_tell_goes_on_to_one_who_waits_for_it() {
     let lock = Arc::new(Mutex::new(()));
     let held = lock.lock().unwrap();
@@ -139,7 +161,7 @@ fn the_turn_to_tell_goes_on_to_one_who_waits_for_it() {
     let counts = Arc::clone(&told);
     let cache = busy(&lock, move || {
         *counts.lock().unwrap().entry(thread::current().id()).or_default() += 1;
-        thread::sleep(Duration::from_micros(50));
+        thread::sleep(Duration::from_micros(400));
     });
     let (starts, started) = mpsc::channel();
     let waits = thread::spawn(move || {

@@ -195,7 +195,7 @@ fn waiters_share_an_error() {
                 start.wait();
                 let make = || {
                     made.fetch_add(1, Ordering::SeqCst);
-                    thread::sleep(Duration::from_millis(200));
+                    thread::sleep(Duration::from_secs(1));
                     Err::<u32, _>("refused".to_string())
                 };
                 let error = cache.try_get_with(1, make).unwrap_err();

@@ -8,6 +8,7 @@
     if (!(it)) return printf("line %d: not %s\n", __LINE__, #it), 1; \
   } while (0)
 
+/* This program has one thread: in one with several these counters would have to be atomic. */
 static void count_causes(void *context, const void *key, size_t key_length, const void *value, size_t value_length,
                          int32_t cause) {
   (void)key, (void)key_length, (void)value, (void)value_length;

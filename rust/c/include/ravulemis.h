@@ -3,7 +3,8 @@
    Every function may be called by any thread at any time. A cache that is destroyed while calls for it are on their way
    goes with the last of them. Keys and values are copied in and out: the caller keeps what it passes, and nothing that
    a call hands out belongs to the cache, but what the listener is lent for the time of its call. Durations are in
-   nanoseconds, lengths in bytes; a weight is 1 for an entry, or the lengths of its key and value together.
+   nanoseconds, lengths in bytes; a weight is 1 for an entry, or the lengths of its key and value together, at most
+   2^32 - 1.
 
    Every function but `ravulemis_message` answers a code of `enum ravulemis_code`. One below 0 is a wrong call, which
    has done nothing, or a fault. A pointer that is neither null nor from `ravulemis_create` cannot be told apart.
@@ -49,10 +50,11 @@ enum ravulemis_cause {
 };
 
 /* Is lent key, value and cause of each value that leaves, until it returns, by the thread by whose call it left or by
-   another that is notifying already. It may call the cache, and is told of what leaves by that when it has returned;
-   but it must not wait for another thread that does: if 1,024 notices are pending, that one may wait for it. Nor may
-   it put back each value that leaves with RAVULEMIS_SIZE: another leaves for it, so the call never ends. It must not
-   throw or jump out. */
+   another that is notifying already. Several threads may call it at once, one for each shard, so what `context` points
+   to has to bear that; for one shard its calls follow each other. It may call the cache, and is told of what leaves by
+   that when it has returned; but it must not wait for another thread that does: if 1,024 notices are pending, that one
+   may wait for it. Nor may it put back each value that leaves with RAVULEMIS_SIZE: another leaves for it, so the call
+   never ends. It must not throw or jump out. */
 typedef void (*ravulemis_listener)(void *context, const void *key, size_t key_length, const void *value,
                                    size_t value_length, int32_t cause);
 
@@ -111,7 +113,8 @@ int32_t ravulemis_get(ravulemis_cache *cache, const void *key, size_t key_length
    Errors: RAVULEMIS_BAD_ARGUMENT, RAVULEMIS_DESTROYED, RAVULEMIS_FAULT. */
 int32_t ravulemis_contains(ravulemis_cache *cache, const void *key, size_t key_length);
 
-/* Takes the key's value out, and copies it as `ravulemis_get` does; it is out also with RAVULEMIS_TRUNCATED.
+/* Takes the key's value out, and copies it as `ravulemis_get` does, also one that has expired or was invalidated and
+   has not left yet; it is out also with RAVULEMIS_TRUNCATED.
    Errors: RAVULEMIS_BAD_ARGUMENT, RAVULEMIS_DESTROYED, RAVULEMIS_FAULT. */
 int32_t ravulemis_remove(ravulemis_cache *cache, const void *key, size_t key_length, void *buffer, size_t room,
                          size_t *value_length);

@@ -52,7 +52,7 @@ pub struct Counts {
 /// The caller's listener with its context.
 struct Told(Listener, *mut c_void);
 
-// SAFETY: the header says that any thread may call the listener, so the caller's context has to bear that.
+// SAFETY: the header says that several threads may call the listener at once, so the caller's context has to bear that.
 unsafe impl Send for Told {}
 // SAFETY: as above.
 unsafe impl Sync for Told {}

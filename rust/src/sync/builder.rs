@@ -6,7 +6,7 @@ use crate::engine::moka_segments::Router;
 use crate::making::Makers;
 use crate::notices::Notices;
 use crate::settings::{Settings, setters};
-use crate::shard::Shard;
+use crate::shard::{Shard, Visits};
 use crate::{EvictionPolicy, Expiry, RemovalCause};
 use std::fmt;
 use std::hash::{BuildHasher, Hash, RandomState};
@@ -86,8 +86,8 @@ where
     /// Is notified of each value that leaves, with key and cause, after the lock of its shard is released. By default
     /// nobody is. It must not put back each value that leaves with `Size`: another leaves for it, so the call never
     /// ends. With a listener a call lets a batch of at most 384 entries leave in each step of a run, however many
-    /// are due; the calls that follow go on. All whose own expiry has come leave at once, and so do all that make room
-    /// for an entry that was put in.
+    /// are due; the calls that follow go on. All whose own expiry has come leave at once, and so do all that exceed the
+    /// capacity.
     ///
     /// ```
     /// # use ravulemis::sync::Cache;
@@ -151,6 +151,7 @@ where
         let mut settings = self.settings;
         settings.initial_capacity = settings.initial_capacity.map(|all| all.div_ceil(count as usize));
         let (settings, start) = (Arc::new(settings), Instant::now());
+        let visits = Visits::new(settings.is_timed(), count);
         let router = Router::new(hasher, count);
         let has_panicked = Arc::default();
         let places = (0..router.count()).map(|index| {
@@ -158,7 +159,7 @@ where
             let share = settings.max_capacity.map(|all| router.share(all, index));
             Place {
                 index: index as usize,
-                shard: Mutex::new(Shard::new(settings.clone(), share, count, start)),
+                shard: Mutex::new(Shard::new(settings.clone(), share, visits.clone(), start)),
                 makers: Makers::default(),
                 notices: listener.map(|listener| Notices::new(listener, Arc::clone(&has_panicked))),
             }

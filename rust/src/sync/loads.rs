@@ -131,10 +131,10 @@ where
         }
     }
 
-    /// A clone of a key's value, which is made and put there if it is missing. Of all who ask for a key at once one
-    /// makes the value, and the others wait for it. If the maker panics, the panic is its caller's, and one of the
-    /// others is the next to make. A maker may call the cache, but not for its own key, nor may two makers wait for
-    /// each other.
+    /// A clone of a key's value, which is made and put there if it is missing. Of all who ask for a key at once by a
+    /// call of this kind one makes the value, and the others wait for it. If the maker panics, the panic is its
+    /// caller's, and one of the others is the next to make. A maker may call the cache, but not for its own key, nor
+    /// may two makers wait for each other.
     ///
     /// ```
     /// let cache = ravulemis::sync::Cache::new(100);
