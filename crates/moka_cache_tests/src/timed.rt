@@ -144,7 +144,7 @@ fn the_system_clock_goes_on(rt: HostRuntime) {
     assert!(rt; goes_on(&mut SystemClock::new(&rt)));
 }
 
-// A source of time that stands.
+// A source of monotonic time that stands, and tells another time of day.
 #[derive(Drop)]
 struct Standing(Duration);
 
@@ -154,7 +154,7 @@ impl std::time::Clock for Standing {
     }
 
     fn since_1970(&self) -> io::Result<Duration> {
-        Ok(self.0)
+        Ok(Duration::ZERO)
     }
 }
 

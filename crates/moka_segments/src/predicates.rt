@@ -46,8 +46,8 @@ impl<
     S: BuildHasher,
 > SegmentedCache<K, V, X, L, P, W, S> {
     /// Registers a predicate in each segment in turn at the moment `now`: what it covers is hidden from now on, and
-    /// runs of maintenance remove it. `make` makes the predicate, once for each segment. The answer is the identifiers,
-    /// one for each segment, in order.
+    /// runs of maintenance remove it. `make` makes the predicate of each segment. The answer is the identifiers, one for
+    /// each segment, in order.
     ///
     /// # Errors
     /// As `Cache::invalidate_entries_if`, at the first segment that refuses, and if memory for its identifier is
