@@ -1,3 +1,4 @@
 pub mod Line
+pub mod Optimum
 pub mod Ratios
 pub mod Rows

@@ -1,4 +1,7 @@
 //! The optimum: what a cache finds that knows the reads to come, and keeps what comes again soonest.
+ghost use Rattle.std.specs.Prelude.{◌≡◌, ◌<◌, ℕ, IfOk, length, get_or};
+ghost use Rattle.moka_traces.specs.Optimum.{IsNextRead};
+
 use crate::tally::Tally;
 use std::alloc::{AllocError, Global};
 use std::collections::{BTreeSet, HashMap};
@@ -10,15 +13,17 @@ const NEVER: u64 = u64::MAX;
 ///
 /// # Errors
 /// `AllocError` if memory for the places is refused.
-pub fn next_reads(alloc: Global, keys: &[u64]) -> Result<Vec<u64>, AllocError> {
+pub fn next_reads(alloc: Global, keys: &[u64]) -> Result<Vec<u64>, AllocError>
+    ensures length { IfOk result (λ nexts. length nexts.items ≡ length keys.now) }
+    ensures next { IfOk result (λ nexts. (place : ℕ) → place < length keys.now
+        → IsNextRead keys.now (length keys.now) place (get_or nexts.items place 0)) }
+{
     let mut last: HashMap<u64, usize> = HashMap::new(alloc);
     let mut nexts = Vec::with_capacity(alloc, keys.len())?;
-    for (place, key) in keys.iter().enumerate() {
+    for place in 0..keys.len() {
         nexts.push(NEVER)?;
-        if let Some(before) = last.insert(*key, place)? {
-            if let Some(next) = nexts.get_mut(before) {
-                *next = place as u64;
-            }
+        if let Some(before) = last.insert(keys[place], place)? {
+            nexts[before] = place as u64;
         }
     }
     Ok(nexts)
