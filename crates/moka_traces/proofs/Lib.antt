@@ -1,1 +1,2 @@
+mod Arrivals
 mod NextReads

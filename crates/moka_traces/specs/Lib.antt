@@ -1,3 +1,4 @@
+pub mod Fifo
 pub mod Line
 pub mod Optimum
 pub mod Ratios
