@@ -1,2 +1,3 @@
 mod Arrivals
 mod NextReads
+mod Playing

@@ -1,6 +1,6 @@
 //! The optimum: what a cache finds that knows the reads to come, and keeps what comes again soonest.
-ghost use Rattle.std.specs.Prelude.{◌≡◌, ◌<◌, ℕ, IfOk, length, get_or};
-ghost use Rattle.moka_traces.specs.Optimum.{IsNextRead};
+ghost use Rattle.std.specs.Prelude.{◌≡◌, ◌<◌, ℕ, IfOk, OnOk, length, get_or};
+ghost use Rattle.moka_traces.specs.Optimum.{IsNextRead, kept_with, played};
 
 use crate::tally::Tally;
 use std::alloc::{AllocError, Global};
@@ -39,21 +39,30 @@ pub fn count(
     nexts: &[u64],
     first_counted: u64,
     capacity: u64,
-) -> Result<Tally, AllocError> {
+) -> Result<Tally, AllocError>
+    ensures hits { IfOk result (λ tally. tally.hits ≡ (played first_counted capacity nexts.now (length nexts.now)).hits) }
+    ensures reads { IfOk result (λ tally. tally.reads
+        ≡ (played first_counted capacity nexts.now (length nexts.now)).reads) }
+{
     let mut tally = Tally::new();
     let mut kept: BTreeSet<u64> = BTreeSet::new(alloc);
-    for (place, next) in nexts.iter().enumerate() {
-        let place = place as u64;
-        let is_hit = kept.remove(&place);
-        if place >= first_counted {
-            tally.count(is_hit);
-        }
-        if *next != NEVER {
-            kept.insert(*next)?;
-        }
-        if kept.len() as u64 > capacity {
-            kept.pop_last();
-        }
+    for place in 0..nexts.len() {
+        let is_hit = kept.remove(&(place as u64));
+        tally.count_from(first_counted, place as u64, is_hit);
+        keep(&mut kept, nexts[place], capacity)?;
     }
     Ok(tally)
+}
+
+// Keeps a key by the place of its next read, unless there is none, and lets the last one go if there are too many.
+fn keep(kept: &mut BTreeSet<u64>, next: u64, capacity: u64) -> Result<(), AllocError>
+    ensures { OnOk result (kept.new.keys ≡ kept_with capacity next kept.old.keys) }
+{
+    if next != NEVER {
+        kept.insert(next)?;
+    }
+    if kept.len() as u64 > capacity {
+        kept.pop_last();
+    }
+    Ok(())
 }

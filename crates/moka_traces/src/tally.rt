@@ -1,5 +1,5 @@
 //! How many reads there were, and how many of them found their key.
-ghost use Rattle.std.specs.Prelude.{◌≡◌, ◌<◌, ◌≤◌, ◌+◌, ◌-◌, ◌^◌, if◌then◌else◌};
+ghost use Rattle.std.specs.Prelude.{◌≡◌, ◌<◌, ◌≤◌, ◌+◌, ◌-◌, ◌^◌, ◌&&◌, nat_le, if◌then◌else◌};
 ghost use Rattle.moka_traces.specs.Ratios.{share_of};
 
 use std::fmt;
@@ -36,6 +36,18 @@ impl Tally {
             hits: self.hits + u64::from(is_hit),
             reads: self.reads + 1,
         };
+    }
+
+    /// Counts a read at this place, if it is not before the first one that counts.
+    pub fn count_from(&mut self, first: u64, place: u64, is_hit: bool)
+        ensures read { self.old.reads < 2 ^ 64 - 1
+            → self.new.reads ≡ self.old.reads + (if nat_le first place then 1 else 0) }
+        ensures hit { self.old.reads < 2 ^ 64 - 1
+            → self.new.hits ≡ self.old.hits + (if nat_le first place && is_hit then 1 else 0) }
+    {
+        if place >= first {
+            self.count(is_hit);
+        }
     }
 
     /// The share of reads that found their key, in ten-thousandths.
