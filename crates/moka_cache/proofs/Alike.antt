@@ -8,7 +8,7 @@ use Rattle.moka_parts.specs.Records.{record_of_key}
 use Rattle.moka_parts.specs.State.{State, Settings, Events}
 use Rattle.moka_parts.specs.Maintenance.{Choice, Removes, MovesToBack, Drops, kept_by_choices}
 use Rattle.moka_parts.specs.Calls.{SendStep, InsertsAt, InsertStep}
-use Rattle.moka_parts.proofs.Kept.{kept_by_send}
+use Rattle.moka_laws.proofs.Kept.{kept_by_send}
 use Rattle.moka_cache.specs.Unsent.{HidesNoMore, ShowsWrites}
 
 -- none is left of no predicates

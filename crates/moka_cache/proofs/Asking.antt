@@ -21,11 +21,11 @@ use Rattle.moka_parts.specs.Copies.{IsCopiedAnswer, IsEntryCopy, IsKvEntryCopy, 
 use Rattle.moka_parts.specs.Visibility.{IsShown, IsVisible}
 use Rattle.moka_parts.specs.Runs.{Engine, Befalls}
 use Rattle.moka_parts.specs.Listed.{ListedRun}
-use Rattle.moka_parts.proofs.Contained.{not_both}
+use Rattle.moka_laws.proofs.Contained.{not_both}
 use Rattle.moka_calls.specs.Given.{Sees}
 use Rattle.moka_calls.specs.Synchronous.{Made, Makes, Posts, InsertsEntry, GetsValue, RemovesEntry, value_found, hears_clones}
-use Rattle.moka_parts.proofs.Alike.{get_alike, listed_run_alike}
-use Rattle.moka_parts.proofs.Quiet.{befalls_then, befalls-nothing, removal_keeps, unheard}
+use Rattle.moka_laws.proofs.Alike.{get_alike, listed_run_alike}
+use Rattle.moka_laws.proofs.Quiet.{befalls_then, befalls-nothing, removal_keeps, unheard}
 use Rattle.moka_calls.proofs.Made.{made_one, made_then, made_more, befalls_more}
 use Rattle.moka_cache.proofs.Waiting.{insert_hands_out, insert_hands_back}
 

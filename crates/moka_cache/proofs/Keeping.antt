@@ -15,11 +15,11 @@ use Rattle.moka_parts.specs.Maintenance.{Terms, Course}
 use Rattle.moka_parts.specs.Records.{Notice, Records, record_of_key}
 use Rattle.moka_parts.specs.Settling.{IsValid}
 use Rattle.moka_parts.specs.State.{State, Events, is_disabled}
-use Rattle.moka_parts.proofs.CallsKeep.{record_at_its_number}
+use Rattle.moka_laws.proofs.CallsKeep.{record_at_its_number}
 use Rattle.moka_parts.proofs.Lookup.{record_of_key_found, present_key}
 use Rattle.moka_parts.proofs.Maps.{get_inserted, get_past_insert, same_or_apart}
-use Rattle.moka_parts.proofs.RunKeeps.{Keeps, keeps_itself, run_keeps}
-use Rattle.moka_parts.proofs.Kept.{kept_by_run, kept_by_due, kept_by_send}
+use Rattle.moka_laws.proofs.RunKeeps.{Keeps, keeps_itself, run_keeps}
+use Rattle.moka_laws.proofs.Kept.{kept_by_run, kept_by_due, kept_by_send}
 use Rattle.moka_cache.specs.Saved.{KeepsRecords}
 
 -- one after the other

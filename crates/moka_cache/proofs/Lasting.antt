@@ -27,10 +27,10 @@ use Rattle.moka_parts.specs.State.{State, Contents, contents}
 use Rattle.moka_parts.specs.Visibility.{has_lapsed, is_expired, is_past_live, is_past_idle, is_written_before, is_read_before}
 use Rattle.moka_parts.specs.Writes.{Fate, Ignored, Overtaken, Counted, Admitted, TooHeavy, Preferred, Refused, with_applied, fate_by_policy, fate_of_newcomer, fate_of_record, after_fate, after_write, after_writes}
 use Rattle.moka_parts.proofs.Maps.{AreApart, same_or_apart, get_removed, get_past_remove}
-use Rattle.moka_parts.proofs.RunKeeps.{reads_keep}
+use Rattle.moka_laws.proofs.RunKeeps.{reads_keep}
 use Rattle.moka_parts.proofs.Options.{none_by_test}
-use Rattle.moka_parts.proofs.Tickets.{all_of}
-use Rattle.moka_parts.proofs.Kept.{kept_by_run, kept_by_send}
+use Rattle.moka_laws.proofs.Tickets.{all_of}
+use Rattle.moka_laws.proofs.Kept.{kept_by_run, kept_by_send}
 use Rattle.moka_engine.specs.declared.base_cache.restores.Restored.{Restored}
 use Rattle.moka_cache.specs.Saved.{HasRoomFor, IsRoomyFor, KeepsUnexpired, TakesOnlyExpired, WeighAtMost}
 use Rattle.moka_cache.proofs.Alike.{none_kept}

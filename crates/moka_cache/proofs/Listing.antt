@@ -15,8 +15,8 @@ use Rattle.moka_parts.specs.Records.{record_of_key}
 use Rattle.moka_parts.specs.Settling.{IsValid}
 use Rattle.moka_parts.specs.State.{State}
 use Rattle.moka_parts.proofs.Lookup.{found_behind, left_part, right_part, present_key}
-use Rattle.moka_parts.proofs.OrderKept.{of_each}
-use Rattle.moka_parts.proofs.Tickets.{all_of}
+use Rattle.moka_laws.proofs.OrderKept.{of_each}
+use Rattle.moka_laws.proofs.Tickets.{all_of}
 use Rattle.moka_cache.specs.Visible.{AreShown, ListsVisible, LooksUp, LooksUpClones}
 
 -- ---- key after key

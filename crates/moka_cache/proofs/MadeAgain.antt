@@ -16,12 +16,12 @@ use Rattle.moka_parts.specs.Settling.{IsValid}
 use Rattle.moka_parts.specs.State.{State, Settings}
 use Rattle.moka_parts.specs.Time.{has_passed, deadline, moment_of}
 use Rattle.moka_parts.specs.Visibility.{is_expired, is_past_live, is_past_idle, is_written_before, is_read_before, IsVisible}
-use Rattle.moka_parts.proofs.Contained.{not_both}
+use Rattle.moka_laws.proofs.Contained.{not_both}
 use Rattle.moka_parts.proofs.Lookup.{record_of_key_found, present_key}
 use Rattle.moka_parts.proofs.Maps.{same_by_test, nothing_at}
-use Rattle.moka_parts.proofs.OrderKept.{of_each}
+use Rattle.moka_laws.proofs.OrderKept.{of_each}
 use Rattle.moka_parts.proofs.Values.{values-empty}
-use Rattle.moka_parts.proofs.Surplus.{none_of_five}
+use Rattle.moka_laws.proofs.Surplus.{none_of_five}
 use Rattle.moka_engine.specs.declared.base_cache.restores.Restored.{Restored}
 use Rattle.moka_engine.specs.Snapshots.{Seen, IsListed, scene_of}
 use Rattle.moka_cache.specs.Saved.{AreAsWeighed, AreSaved, IsOfItem, IsSaved, IsRestored, HasRoomFor, IsMadeAgain, IsSeen, AnswerAlike, MadeAgainAnswersAlike, EmptyHasRoom, has_expired}

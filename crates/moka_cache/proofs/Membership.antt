@@ -11,7 +11,7 @@ use Rattle.moka_parts.specs.Settling.{IsTracked, IsWaiting, IsValid}
 use Rattle.moka_parts.specs.State.{State, Events, is_disabled}
 use Rattle.moka_parts.proofs.Maps.{nothing_at}
 use Rattle.moka_cache.specs.Saved.{HasOnlyMembers}
-use Rattle.moka_parts.proofs.Alike.{listed_run_alike}
+use Rattle.moka_laws.proofs.Alike.{listed_run_alike}
 use Rattle.moka_cache.proofs.Posting.{listed_run_empties}
 
 -- where all was sent and applied nothing waits

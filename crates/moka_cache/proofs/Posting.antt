@@ -16,8 +16,8 @@ use Rattle.moka_parts.specs.Surroundings.{Leads}
 use Rattle.moka_parts.specs.Calls.{no_events, RunStep, RunsIfDue, SendStep}
 use Rattle.moka_parts.specs.Runs.{Engine, Befalls}
 use Rattle.moka_parts.specs.Listed.{ListedRun}
-use Rattle.moka_parts.proofs.Kept.{kept_by_run, kept_by_due}
-use Rattle.moka_parts.proofs.RunKeeps.{keeps_itself}
+use Rattle.moka_laws.proofs.Kept.{kept_by_run, kept_by_due}
+use Rattle.moka_laws.proofs.RunKeeps.{keeps_itself}
 use Rattle.moka_cache.specs.Saved.{KeepsRecords, TakesOnlyExpired}
 use Rattle.moka_calls.specs.Synchronous.{Made, Makes, Posts, own_run}
 use Rattle.moka_cache.specs.Unsent.{IsHeld, AreOlder, HoldsUnsent, HidesNoMore}
@@ -26,7 +26,7 @@ use Rattle.moka_cache.proofs.Keeping.{keeps_then, listed_run_keeps, send_keeps}
 use Rattle.moka_cache.proofs.Lasting.{keeps_itself as lasts_itself, keeps_then as lasts_then, keeps_to as lasts_to, listed_run_lasts, send_lasts}
 use Rattle.moka_calls.proofs.Made.{made_one, made_then}
 use Rattle.moka_cache.proofs.Stays.{run_holds, send_holds}
-use Rattle.moka_parts.proofs.Alike.{IsAlike, alike_itself, due_alike, listed_run_alike}
+use Rattle.moka_laws.proofs.Alike.{IsAlike, alike_itself, due_alike, listed_run_alike}
 use Rattle.moka_cache.proofs.Waiting.{sent_alone, refused_alone, sent_when_empty, alone_in_order}
 
 -- ---- what a run leaves

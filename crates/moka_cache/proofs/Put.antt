@@ -16,7 +16,7 @@ use Rattle.moka_parts.specs.Calls.{new_record, updated_record, InsertsAt, Insert
 use Rattle.moka_parts.specs.Visibility.{has_lapsed, NoneCovers, IsShown}
 use Rattle.moka_parts.proofs.Maps.{get_inserted}
 use Rattle.moka_parts.proofs.Lookup.{record_of_key_found, present_key}
-use Rattle.moka_parts.proofs.Tickets.{all_of}
+use Rattle.moka_laws.proofs.Tickets.{all_of}
 use Rattle.moka_cache.specs.Unsent.{IsHeld, IsOlder, AreOlder, IsThere, ShowsWrites}
 
 -- what waits is older than a record at the next number

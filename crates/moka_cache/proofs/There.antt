@@ -13,7 +13,7 @@ use Rattle.moka_parts.specs.Exact.{weight_of_records}
 use Rattle.moka_parts.specs.Settling.{IsValid, IsWaiting}
 use Rattle.moka_parts.specs.State.{State, is_disabled}
 use Rattle.moka_parts.specs.Visibility.{has_lapsed}
-use Rattle.moka_parts.proofs.CallsKeep.{next_number_free}
+use Rattle.moka_laws.proofs.CallsKeep.{next_number_free}
 use Rattle.moka_parts.proofs.Lookup.{record_of_key_found, present_key}
 use Rattle.moka_parts.proofs.Maps.{same_or_apart, get_inserted, get_past_insert}
 use Rattle.moka_parts.proofs.Values.{values_inserted}

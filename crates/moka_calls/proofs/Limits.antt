@@ -10,8 +10,8 @@ use Rattle.moka_parts.specs.Maintenance.{Terms, Course}
 use Rattle.moka_parts.specs.Records.{Notice}
 use Rattle.moka_parts.specs.Runs.{CallStep, Step, AreSteps, PromisedRun, calls_of, last_state}
 use Rattle.moka_parts.specs.State.{State, Meaning, Events}
-use Rattle.moka_parts.proofs.EachCall.{IsKept, kept_by_call}
-use Rattle.moka_parts.proofs.Kept.{kept_by_run}
+use Rattle.moka_laws.proofs.EachCall.{IsKept, kept_by_call}
+use Rattle.moka_laws.proofs.Kept.{kept_by_run}
 use Rattle.moka_calls.specs.Synchronous.{Posts, InsertsEntry, GetsValue, RemovesEntry, InsertsMade, GetsOrInserts, GetsOrInsertsIfMade, GetsOrInsertsIfNoError}
 use Rattle.moka_calls.specs.Computing.{Computed, Computes, Upserts}
 use Rattle.moka_calls.specs.Computing.Computed.{Left, LeftNone, Puts, Takes}

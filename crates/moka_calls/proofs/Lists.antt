@@ -9,7 +9,7 @@ use Rattle.moka_parts.specs.Calls.{no_events}
 use Rattle.moka_parts.specs.State.{State, Meaning}
 use Rattle.moka_parts.specs.Order.{IsOrderly}
 use Rattle.moka_parts.specs.Runs.{Step, AreOrderly}
-use Rattle.moka_parts.proofs.OrderedDrive.{drives_in_order, empty_in_order, listed_steps_orderly}
+use Rattle.moka_laws.proofs.OrderedDrive.{drives_in_order, empty_in_order, listed_steps_orderly}
 use Rattle.moka_calls.specs.Synchronous.{IsSentInOrder, AreSentInOrder, hears_clones}
 use Rattle.moka_calls.specs.Laws.{IsTimely, AreTimely, GoesOn, KeepsPromises, MadeRunsAgeOut, HearsClones, HearsThemselves, InvalidateAllIsMade, SetMaxCapacityIsMade}
 use Rattle.moka_calls.proofs.Made.{made_one, made_then, made_more}

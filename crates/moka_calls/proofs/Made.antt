@@ -16,8 +16,8 @@ use Rattle.moka_parts.specs.Surroundings.{Leads, NoticeStep, Heard}
 use Rattle.moka_parts.specs.Runs.{Engine, Befalls, CallStep, Step, AreSteps, MakesCalls, PromisedRun, passes_after, last_passes, last_state, notices_of, readings_of, ids_of}
 use Rattle.moka_parts.specs.Listed.{ListedRun, ListedStep, AreListedSteps}
 use Rattle.moka_parts.proofs.RunsGoOn.{Leads-append, Heard-append, MakesCalls_push}
-use Rattle.moka_parts.proofs.OrderedDrive.{listed_call_promised}
-use Rattle.moka_parts.proofs.Quiet.{no_calls}
+use Rattle.moka_laws.proofs.OrderedDrive.{listed_call_promised}
+use Rattle.moka_laws.proofs.Quiet.{no_calls}
 use Rattle.moka_calls.specs.Synchronous.{Made, MadeAsking, IsSentInOrder, AreSentInOrder}
 
 -- ---- calls

@@ -13,10 +13,10 @@ use Rattle.moka_parts.specs.Calls.{InvalidateStep, only_ids}
 use Rattle.moka_parts.specs.Runs.{Engine, Befalls, ids_of}
 use Rattle.moka_parts.specs.State.{Meaning, Events}
 use Rattle.moka_parts.specs.Surroundings.{Leads, Heard}
-use Rattle.moka_parts.proofs.OrderedDrive.{drives_in_order}
+use Rattle.moka_laws.proofs.OrderedDrive.{drives_in_order}
 use Rattle.moka_calls.specs.Registering.{JoinsRegistrations}
 use Rattle.moka_calls.specs.Synchronous.{Made, MadeAsking}
-use Rattle.moka_parts.proofs.Quiet.{unheard}
+use Rattle.moka_laws.proofs.Quiet.{unheard}
 use Rattle.moka_calls.proofs.Made.{asked_one, asked_then, made_otherwise, otherwise}
 
 -- a source that gives none gave none

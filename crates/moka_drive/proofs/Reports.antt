@@ -14,7 +14,7 @@ use Rattle.moka_parts.specs.Maintenance.{Terms, Course}
 use Rattle.moka_parts.specs.Calls.{no_events, KeysStep}
 use Rattle.moka_parts.specs.Copies.{ClonesAreEqual, IsCopy}
 use Rattle.moka_parts.specs.Runs.{CallStep}
-use Rattle.moka_parts.proofs.Copies.{copy-same}
+use Rattle.moka_laws.proofs.Copies.{copy-same}
 use Rattle.moka_drive.specs.Replies.{TellsPending}
 
 -- where clones of keys are equal, a list of clones is one of the keys themselves

@@ -16,7 +16,7 @@ use Rattle.moka_store.proofs.Gets.{after_insert, after_remove}
 use Rattle.moka_engine.specs.BaseCache.{IsCache, IsStocked, NoneExpires, IsWhole}
 use Rattle.moka_engine.proofs.Stocked.{stocked-roomier}
 use Rattle.moka_inner.specs.Interior.{Interior}
-use Rattle.moka_parts.proofs.Quiet.{nothing_heard}
+use Rattle.moka_laws.proofs.Quiet.{nothing_heard}
 
 -- the state with this inner part
 abbrev pub with_inner : {K V X P W S : Type 0} → State K V X P W → Interior K V S → State K V X P W

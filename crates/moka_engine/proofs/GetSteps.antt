@@ -20,10 +20,10 @@ use Rattle.moka_parts.specs.Records.{Notice, Records, record_of_key, with_record
 use Rattle.moka_parts.specs.Runs.{Engine, Befalls}
 use Rattle.moka_parts.specs.State.{State, Settings, Events, is_disabled}
 use Rattle.moka_parts.specs.Surroundings.{Leads}
-use Rattle.moka_parts.proofs.CallsKeep.{found_enabled}
+use Rattle.moka_laws.proofs.CallsKeep.{found_enabled}
 use Rattle.moka_parts.proofs.Lookup.{present_key}
 use Rattle.moka_parts.proofs.Maps.{get_inserted}
-use Rattle.moka_parts.proofs.StepsKeep.{hit_valid, valid_with}
+use Rattle.moka_laws.proofs.StepsKeep.{hit_valid, valid_with}
 use Rattle.moka_store.specs.declared.store.Handle.{Handle}
 use Rattle.moka_store.specs.Store.{Kept}
 use Rattle.moka_inner.specs.Interior.{Interior}
@@ -31,7 +31,7 @@ use Rattle.moka_engine.specs.BaseCache.{IsStocked, IsWhole, expirations_of, expi
 use Rattle.moka_engine.specs.Looks.{IsFound, LooksUp, Touches, entry_at}
 use Rattle.moka_engine.specs.Makes.{Takes}
 use Rattle.moka_engine.proofs.EngineSteps.{with_inner, cache_with, order_and_hasher, cache_changed, befalls-inside, unexpiring-inserted, cache-inner, there-inside, number-inside, own-inside}
-use Rattle.moka_parts.proofs.Quiet.{befalls-nothing}
+use Rattle.moka_laws.proofs.Quiet.{befalls-nothing}
 use Rattle.moka_engine.proofs.Stocked.{stocked-touched, stays-unrenewed, same_duration}
 
 -- ---- what a hit makes of a record

@@ -13,10 +13,10 @@ use Rattle.moka_parts.specs.Records.{counted_of, record_of_key}
 use Rattle.moka_parts.specs.Settling.{IsWaitingIn, IsWaiting, IsTracked, IsValid}
 use Rattle.moka_parts.specs.Runs.{Engine}
 use Rattle.moka_parts.specs.State.{State, Events}
-use Rattle.moka_parts.proofs.CallsKeep.{record_at_its_number}
-use Rattle.moka_parts.proofs.Kept.{kept_by_run}
+use Rattle.moka_laws.proofs.CallsKeep.{record_at_its_number}
+use Rattle.moka_laws.proofs.Kept.{kept_by_run}
 use Rattle.moka_parts.proofs.Lookup.{record_of_key_found, present_key}
-use Rattle.moka_parts.proofs.RunKeeps.{Keeps, keeps_itself, run_keeps}
+use Rattle.moka_laws.proofs.RunKeeps.{Keeps, keeps_itself, run_keeps}
 use Rattle.moka_store.proofs.Gets.{option-cases}
 use Rattle.moka_inner.specs.ReadNumber.{IsReadNumber}
 use Rattle.moka_engine.specs.BaseCache.{IsCache}

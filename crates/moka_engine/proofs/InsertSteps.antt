@@ -18,7 +18,7 @@ use Rattle.moka_parts.specs.Notification.{HearsOnce}
 use Rattle.moka_parts.specs.Records.{when_listening, record_of_key, with_record}
 use Rattle.moka_parts.specs.Runs.{Engine, Befalls}
 use Rattle.moka_parts.specs.State.{State, Settings, Events, is_disabled}
-use Rattle.moka_parts.proofs.CallsKeep.{inserted_valid, replaced_valid}
+use Rattle.moka_laws.proofs.CallsKeep.{inserted_valid, replaced_valid}
 use Rattle.moka_store.specs.Updates.{updated}
 use Rattle.moka_store.specs.declared.store.Update.{Update}
 use Rattle.moka_inner.specs.Interior.{Interior, first_record, handing_out_inside}

@@ -12,14 +12,14 @@ use Rattle.moka_parts.specs.Maintenance.{Terms}
 use Rattle.moka_parts.specs.Runs.{Engine, Befalls}
 use Rattle.moka_parts.specs.State.{State, Events}
 use Rattle.moka_parts.specs.Surroundings.{Leads}
-use Rattle.moka_parts.proofs.Kept.{kept_by_run}
-use Rattle.moka_parts.proofs.StepsKeep.{valid_with}
+use Rattle.moka_laws.proofs.Kept.{kept_by_run}
+use Rattle.moka_laws.proofs.StepsKeep.{valid_with}
 use Rattle.moka_store.specs.Store.{Kept}
 use Rattle.moka_engine.specs.BaseCache.{IsWhole}
 use Rattle.moka_engine.specs.Makes.{EngineRuns, Takes}
 use Rattle.moka_inner.specs.Interior.{Interior}
 use Rattle.moka_engine.proofs.EngineSteps.{with_inner, cache_with, order_and_hasher, cache_changed}
-use Rattle.moka_parts.proofs.Quiet.{befalls-nothing}
+use Rattle.moka_laws.proofs.Quiet.{befalls-nothing}
 use Rattle.moka_engine.proofs.GetSteps.{reads_queued}
 
 -- the housekeeper of a state

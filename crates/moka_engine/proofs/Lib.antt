@@ -14,9 +14,9 @@ pub mod HitSteps
 pub mod Registering
 pub mod Passing
 pub mod RestoreSteps
-pub use Rattle.moka_parts.proofs.Copies
+pub use Rattle.moka_laws.proofs.Copies
 pub use Rattle.moka_parts.proofs.Lookup
 pub use Rattle.moka_parts.proofs.Maps
 pub use Rattle.moka_parts.proofs.Values
-pub use Rattle.moka_parts.proofs.Alike
-pub use Rattle.moka_parts.proofs.Quiet
+pub use Rattle.moka_laws.proofs.Alike
+pub use Rattle.moka_laws.proofs.Quiet

@@ -9,14 +9,14 @@ use Rattle.moka_parts.specs.Records.{Records, record_of_key}
 use Rattle.moka_parts.specs.Runs.{Engine, Befalls}
 use Rattle.moka_parts.specs.State.{State, is_disabled}
 use Rattle.moka_parts.specs.Visibility.{IsHidden, IsShown}
-use Rattle.moka_parts.proofs.CallsKeep.{found_enabled}
+use Rattle.moka_laws.proofs.CallsKeep.{found_enabled}
 use Rattle.moka_store.specs.declared.store.Handle.{Handle}
 use Rattle.moka_store.specs.Store.{Kept}
 use Rattle.moka_inner.specs.Interior.{Interior}
 use Rattle.moka_engine.specs.BaseCache.{IsWhole, expirations_of}
 use Rattle.moka_engine.specs.Looks.{Finds, IsFound}
 use Rattle.moka_engine.proofs.EngineSteps.{with_inner, cache_with, order_and_hasher, befalls-inside, key-inside}
-use Rattle.moka_parts.proofs.Quiet.{befalls-nothing}
+use Rattle.moka_laws.proofs.Quiet.{befalls-nothing}
 use Rattle.moka_engine.proofs.GetSteps.{IsNoted, record_read}
 
 module _ {K V S X L P W : Type 0} (says : P → K → V → Bool → Type 0) (read : X → K → V → ℕ → Option ℕ → ℕ → Option ℕ) (tells : L → K → V → RemovalCause → L → Type 0) (eq : K → K → Bool)

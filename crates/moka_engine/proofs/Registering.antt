@@ -12,9 +12,9 @@ use Rattle.moka_parts.specs.Runs.{Engine, Befalls}
 use Rattle.moka_parts.specs.State.{State, Events}
 use Rattle.moka_parts.specs.Surroundings.{Leads}
 use Rattle.moka_parts.proofs.Registry.{invalidate_step}
-use Rattle.moka_parts.proofs.StepsKeep.{valid_with}
+use Rattle.moka_laws.proofs.StepsKeep.{valid_with}
 use Rattle.moka_engine.specs.BaseCache.{IsCache}
-use Rattle.moka_parts.proofs.Quiet.{nothing_heard}
+use Rattle.moka_laws.proofs.Quiet.{nothing_heard}
 
 module _ {K V S X L P W I : Type 0} (tells : L → K → V → RemovalCause → L → Type 0) (gives : I → Uuid → I → Type 0) {old now : Engine K V S X L P W} (is : old ≡ now) (predicate : P) (moment : Instant) (source after : I) where
   -- a registration that answers so, and leaves these predicates

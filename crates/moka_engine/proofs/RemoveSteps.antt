@@ -6,7 +6,7 @@ use Rattle.moka_parts.specs.declared.records.Operation.TheVariants.{Removal}
 use Rattle.moka_parts.specs.declared.records.Record.{Record}
 use Rattle.moka_parts.specs.Calls.{handing_out}
 use Rattle.moka_parts.specs.State.{State}
-use Rattle.moka_parts.proofs.CallsKeep.{removal_valid}
+use Rattle.moka_laws.proofs.CallsKeep.{removal_valid}
 use Rattle.moka_inner.specs.Interior.{Interior, handing_out_inside}
 use Rattle.moka_engine.specs.BaseCache.{IsStocked, IsWhole}
 use Rattle.moka_engine.proofs.EngineSteps.{with_inner, unexpiring-removed, cache-inner, number-inside, own-inside}

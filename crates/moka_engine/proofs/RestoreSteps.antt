@@ -14,8 +14,8 @@ use Rattle.moka_parts.specs.Records.{Records, record_of_key, with_record}
 use Rattle.moka_parts.specs.Runs.{Engine}
 use Rattle.moka_parts.specs.Settling.{IsValid, IsWaiting}
 use Rattle.moka_parts.specs.State.{State, is_disabled}
-use Rattle.moka_parts.proofs.CallsKeep.{inserted_valid, replaced_from, with_records_numbered}
-use Rattle.moka_parts.proofs.Consistent.{renew_kept}
+use Rattle.moka_laws.proofs.CallsKeep.{inserted_valid, replaced_from, with_records_numbered}
+use Rattle.moka_laws.proofs.Consistent.{renew_kept}
 use Rattle.moka_parts.proofs.Maps.{same_or_apart, get_inserted, get_past_insert}
 use Rattle.moka_engine.specs.declared.base_cache.restores.Restored.{Restored}
 use Rattle.moka_engine.specs.declared.base_cache.restores.RestoreRefused.{RestoreRefused}

@@ -17,9 +17,9 @@ use Rattle.moka_parts.specs.Maintenance.{Terms, tests_of}
 use Rattle.moka_parts.specs.Calls.{RunStep}
 use Rattle.moka_parts.specs.Surroundings.{Leads}
 use Rattle.moka_parts.specs.Runs.{Engine}
-use Rattle.moka_parts.proofs.AtEnd.{bare_is_exact}
+use Rattle.moka_laws.proofs.AtEnd.{bare_is_exact}
 use Rattle.moka_parts.proofs.Options.{none_by_test}
-use Rattle.moka_parts.proofs.RunReturns.{run_returns, disabled_promised}
+use Rattle.moka_laws.proofs.RunReturns.{run_returns, disabled_promised}
 use Rattle.moka_maintenance.specs.declared.sweep.Tests.{Tests}
 use Rattle.moka_maintenance.specs.Steps.{contents_with, stock_in}
 use Rattle.moka_maintenance.specs.Timers.{AreOnTime, HasNoneDue, KeepsTimers}

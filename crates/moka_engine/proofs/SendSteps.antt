@@ -8,7 +8,7 @@ use Rattle.moka_parts.specs.declared.notification.RemovalCause.{RemovalCause}
 use Rattle.moka_parts.specs.Calls.{no_events, queue_length, SendsAt, SendStep}
 use Rattle.moka_parts.specs.Runs.{Engine, Befalls}
 use Rattle.moka_parts.specs.State.{State}
-use Rattle.moka_parts.proofs.StepsKeep.{sent_valid}
+use Rattle.moka_laws.proofs.StepsKeep.{sent_valid}
 use Rattle.moka_inner.specs.Interior.{Interior}
 use Rattle.moka_engine.specs.BaseCache.{IsCache, IsStocked, IsWhole}
 use Rattle.moka_engine.proofs.EngineSteps.{with_inner, cache_with, order_and_hasher, befalls-inside, cache-inner}

@@ -19,6 +19,7 @@ pub use base_cache::{
     BaseCache, RestoreError, RestoreRefused, Restored, Sight, Snapshot, SnapshotEntry,
 };
 pub use config::{CacheConfig, DefaultHasher, Engine};
+pub use moka_laws::laws;
 pub use moka_parts::calls::{Call, DriveRefused, Entry, KvEntry, Reply, Ticket};
 pub use moka_parts::closures::{
     ByClosure, NoPredicate, NoTest, NoWeigher, PairFn, PredicateFn, ValueTest, Weigher,
@@ -33,7 +34,6 @@ pub use moka_parts::housekeeper::{
 };
 pub use moka_parts::invalidator::{IdSource, PredicateId};
 pub use moka_parts::key_test::KeyTest;
-pub use moka_parts::laws;
 pub use moka_parts::notification::{Listener, NoListener, RemovalCause};
 pub use moka_parts::policy::{
     EvictionPolicy, ExpirationPolicy, ExpireAfter, ExpireAfterCreate, ExpireAfterRead,

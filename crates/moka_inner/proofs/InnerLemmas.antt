@@ -20,9 +20,9 @@ use Rattle.moka_parts.specs.Records.{Records}
 use Rattle.moka_parts.specs.Settling.{number_of, IsWaitingIn}
 use Rattle.moka_parts.specs.Maintenance.{Choice}
 use Rattle.moka_parts.specs.State.{Contents}
-use Rattle.moka_parts.proofs.RunKeeps.{Keeps, keeps_writes, keeps_choices}
+use Rattle.moka_laws.proofs.RunKeeps.{Keeps, keeps_writes, keeps_choices}
 use Rattle.moka_parts.proofs.Values.{len_removed, remove_absent}
-use Rattle.moka_parts.proofs.Waiting.{hands_out, waits_sent}
+use Rattle.moka_laws.proofs.Waiting.{hands_out, waits_sent}
 use Rattle.moka_structures.specs.Pending.{Pending}
 use Rattle.moka_store.specs.Store.{Kept}
 use Rattle.moka_store.proofs.Gets.{after_insert, after_remove, get-inserted, get-past_insert, get-past_remove, len-inserted, len-kept, option-cases}
@@ -38,7 +38,7 @@ use Rattle.moka_inner.specs.Interior.{IsLocated, IsReadLocated, operations_of}
 use Rattle.moka_maintenance.proofs.Fewer.{len-fewer}
 use Rattle.moka_maintenance.proofs.Placed.{none_inserted}
 use Rattle.moka_inner.proofs.ValuesLemmas.{get-map_values, map_values-insert, map_values-remove, map_values-found}
-use Rattle.moka_sketch.specs.Frequency.{Table}
+use Rattle.moka_parts.specs.Frequency.{Table}
 
 -- ---- where what waits is located
 

@@ -8,7 +8,7 @@ use Rattle.moka_parts.specs.declared.records.ReadOperation.TheVariants.{Hit, Mis
 use Rattle.moka_parts.specs.declared.records.Record.{Record}
 use Rattle.moka_parts.specs.declared.records.Ticketed.{Ticketed}
 use Rattle.moka_parts.specs.Records.{Records, Operations}
-use Rattle.moka_sketch.specs.Frequency.{Table}
+use Rattle.moka_parts.specs.Frequency.{Table}
 use Rattle.moka_store.specs.declared.store.Update.{Update}
 use Rattle.moka_store.specs.Store.{Kept}
 use Rattle.moka_maintenance.specs.declared.queued.PlacedWrite.{PlacedWrite}

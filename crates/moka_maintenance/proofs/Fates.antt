@@ -17,7 +17,7 @@ use Rattle.moka_parts.specs.Writes.{AreMoves, Fate, Ignored, Overtaken, Counted,
 use Rattle.moka_parts.specs.Maintenance.{Removes, after_choice}
 use Rattle.moka_parts.specs.Order.{IsListOf, written_after_fate}
 use Rattle.moka_parts.proofs.AccessList.{absent_taken_out, counted-all_to_back}
-use Rattle.moka_sketch.specs.Frequency.{Table}
+use Rattle.moka_parts.specs.Frequency.{Table}
 use Rattle.moka_store.specs.Store.{Kept}
 use Rattle.moka_store.proofs.Gets.{none_by_test, some_is}
 use Rattle.moka_store.proofs.Members.{absent_to_back}

@@ -1,7 +1,7 @@
 -- Steps by their grounds, and their order.
 use Rattle.std.specs.Prelude.{slice_get}
 use Rattle.std.proofs.Common.{◌≡◌, refl, ℕ, zero, suc, ◌+◌, ◌≤◌, Bool, true, false, true≢false, not, ◌&&◌, ◌||◌, List, [], ◌∷◌, ◌++◌, length, Option, Some, None, ◌⊎◌, inl, inr, ap, sym, subst, ◌∙◌, arith, append_assoc, append-nil, if◌then◌else◌}
-use Rattle.moka_sketch.specs.Frequency.{Table}
+use Rattle.moka_parts.specs.Frequency.{Table}
 use Rattle.moka_parts.specs.declared.notification.RemovalCause.{RemovalCause}
 use Rattle.moka_parts.specs.declared.notification.RemovalCause.TheVariants.{Expired, Explicit}
 use Rattle.moka_parts.specs.declared.records.Record.{Record}
@@ -72,7 +72,7 @@ module _ {K V : Type 0} (Covered Other : Record K V → Type 0) (also : (r : Rec
     -- by another write list, if it is the same where one is kept
     turn-also : (ground : Ground) (c : Contents K V) (ms ns : List ℕ) (n : ℕ) → (ordered ≡ true → ms ≡ ns) → IsTurnOf q ordered ground c ms n → IsTurnOf q ordered ground (record c { sketch = sketch }) ns n
     turn-also ByTimer c ms ns n same h = h
-    turn-also ByWrite c ms ns n same h = λ kept. subst (λ xs. slice_get xs 0 ≡ Some n) (same kept) (h kept)
+    turn-also ByWrite c ms ns n same h = (h.0, subst (λ xs. slice_get xs 0 ≡ Some n) (same h.0) h.1)
     turn-also ByRead c ms ns n same h = h
     turn-also ByPredicate c ms ns n same h = h
     turn-also BySurplus c ms ns n same h = h
@@ -115,6 +115,34 @@ module _ {K V : Type 0} (Covered Other : Record K V → Type 0) (also : (r : Rec
             subst (λ d. FollowsGrounds Other q Less Timely ordered batch grounds d (written_after_choices ns h.0) h.1) after (grounds-also batch grounds (after_choices c h.0) (written_after_choices ms h.0) (written_after_choices ns h.0) h.1 still h.5),
           )
 
+-- ---- where no write list is kept, none is made of it
+
+none_written : (x : Choice) → written_after_choice [] x ≡ []
+none_written (Removes n cause) = refl
+none_written (MovesToBack n) = refl
+none_written (Drops i) = refl
+
+-- the write list is empty where none is kept
+abbrev pub IsKeptWith : {K V : Type 0} → Bool → Stock K V → Type 0
+IsKeptWith ordered c = ordered ≡ false → c.written ≡ []
+
+-- so it has a front only where it is kept
+has_front : {K V : Type 0} (ordered : Bool) (c : Stock K V) (n : ℕ) → slice_get c.written 0 ≡ Some n → IsKeptWith ordered c → ordered ≡ true
+has_front true c n next kept = refl
+has_front false c n next kept = absurd (let no : None ≡ Some n = subst (λ ns. slice_get ns 0 ≡ Some n) (kept refl) next in cc)
+
+module _ {K V : Type 0} (ordered : Bool) where
+  kept-step : (c : Stock K V) (x : Choice) → IsKeptWith ordered c → IsKeptWith ordered (after_step c x)
+  kept-step c x kept none = ap (λ ns. written_after_choice ns x) (kept none) ∙ none_written x
+
+  kept-steps : (c : Stock K V) (xs : List Choice) → IsKeptWith ordered c → IsKeptWith ordered (after_steps c xs)
+  kept-steps c [] kept = kept
+  kept-steps c (x ∷ xs) kept = kept-steps (after_step c x) xs (kept-step c x kept)
+
+  -- after some steps
+  pub kept-on : (a b : Stock K V) (xs : List Choice) → b ≡ after_steps a xs → IsKeptWith ordered a → IsKeptWith ordered b
+  kept-on a b xs led kept = subst (λ (c : Stock K V). IsKeptWith ordered c) (sym led) (kept-steps a xs kept)
+
 module _ {K V P : Type 0} (says : P → K → V → Bool → Type 0) (ps : List (Registered P)) where
   -- each step of a pass is one of a run
   pub take_runs : (q : parts.Tests) (ground : Ground) (c : Stock K V) (x : Choice) → MayTake (SomeCovers says ps) q ground c.contents x → MayRun says ps q c x
@@ -129,12 +157,12 @@ module _ {K V P : Type 0} (says : P → K → V → Bool → Type 0) (ps : List 
 
   -- a choice that the step may make, of what it has come to
   abbrev pub Takes : Tests → Bool → Ground → Stock K V → Choice → Type 0
-  Takes q ordered ground c x = IsInTurn (tests_in q) ordered ground c.contents c.written x × MayTake (SomeCovers says ps) (tests_in q) ground c.contents x
+  Takes q ordered ground c x = (IsKeptWith ordered c → IsInTurn (tests_in q) ordered ground c.contents c.written x) × MayTake (SomeCovers says ps) (tests_in q) ground c.contents x
 
-  next_turn : (q : Tests) (ordered : Bool) (sweep : Sweep) (c : Stock K V) (n : ℕ) → IsNext q sweep c n → IsTurnOf (tests_in q) ordered (ground_of sweep) c.contents c.written n
-  next_turn q ordered Written c n next = λ kept. next
-  next_turn q ordered Read c n next = next
-  next_turn q ordered Surplus c n next = next
+  next_turn : (q : Tests) (ordered : Bool) (sweep : Sweep) (c : Stock K V) (n : ℕ) → IsNext q sweep c n → IsKeptWith ordered c → IsTurnOf (tests_in q) ordered (ground_of sweep) c.contents c.written n
+  next_turn q ordered Written c n next kept = (has_front ordered c n next kept, next)
+  next_turn q ordered Read c n next kept = next
+  next_turn q ordered Surplus c n next kept = next
 
   pub turn_takes : (q : Tests) (ordered : Bool) (sweep : Sweep) (c : Stock K V) (x : Choice) → MayTurn q sweep c x → Takes q ordered (ground_of sweep) c x
   turn_takes q ordered sweep c (Removes n cause) may = (next_turn q ordered sweep c n may.0, take-also (λ _. ⊥) (SomeCovers says ps) (λ r none. absurd none) (tests_in q) c.contents.sketch (ground_of sweep) c.contents (Removes n cause) may.1)
@@ -142,25 +170,25 @@ module _ {K V P : Type 0} (says : P → K → V → Bool → Type 0) (ps : List 
   turn_takes q ordered sweep c (Drops i) may = absurd may
 
   pub expiry_takes : (q : Tests) (ordered : Bool) (c : Stock K V) (x : Choice) → MayExpire q c x → Takes q ordered ByTimer c x
-  expiry_takes q ordered c (Removes n cause) may = (tt, take-also (λ _. ⊥) (SomeCovers says ps) (λ r none. absurd none) (tests_in q) c.contents.sketch ByTimer c.contents (Removes n cause) may)
+  expiry_takes q ordered c (Removes n cause) may = (λ _. tt, take-also (λ _. ⊥) (SomeCovers says ps) (λ r none. absurd none) (tests_in q) c.contents.sketch ByTimer c.contents (Removes n cause) may)
   expiry_takes q ordered c (MovesToBack n) may = absurd (true≢false (sym may.0))
   expiry_takes q ordered c (Drops i) may = absurd may
 
   pub scan_takes : (q : Tests) (ordered : Bool) (c : Stock K V) (x : Choice) → MayScan says ps c x → Takes q ordered ByPredicate c x
-  scan_takes q ordered c (Removes n cause) may = (tt, (may.0, may.1, may.2, (may.3, may.4)))
+  scan_takes q ordered c (Removes n cause) may = (λ _. tt, (may.0, may.1, may.2, (may.3, may.4)))
   scan_takes q ordered c (MovesToBack n) may = absurd may
   scan_takes q ordered c (Drops i) may = absurd may
 
 -- ---- steps of a stock
 
 module _ {K V : Type 0} (Covered : Record K V → Type 0) (q : parts.Tests) (Spared : Record K V → Type 0) (OnTime : Type 0) (ordered : Bool) where
-  all_taken : (May : Stock K V → Choice → Type 0) (ground : Ground) → ((c : Stock K V) (x : Choice) → May c x → IsInTurn q ordered ground c.contents c.written x × MayTake Covered q ground c.contents x) → (c : Stock K V) (xs : List Choice) → MayAll May c xs → AreTaken Covered q ordered ground c.contents c.written xs
-  all_taken May ground takes c [] may = tt
-  all_taken May ground takes c (x ∷ xs) may = (takes c x may.0, all_taken May ground takes (after_step c x) xs may.1)
+  all_taken : (May : Stock K V → Choice → Type 0) (ground : Ground) → ((c : Stock K V) (x : Choice) → May c x → (IsKeptWith ordered c → IsInTurn q ordered ground c.contents c.written x) × MayTake Covered q ground c.contents x) → (c : Stock K V) (xs : List Choice) → IsKeptWith ordered c → MayAll May c xs → AreTaken Covered q ordered ground c.contents c.written xs
+  all_taken May ground takes c [] kept may = tt
+  all_taken May ground takes c (x ∷ xs) kept may = (((takes c x may.0).0 kept, (takes c x may.0).1), all_taken May ground takes (after_step c x) xs (kept-step ordered c x kept) may.1)
 
   -- those of one ground
-  pub grounds-one : (batch : ℕ) (May : Stock K V → Choice → Type 0) (ground : Ground) → ((c : Stock K V) (x : Choice) → May c x → IsInTurn q ordered ground c.contents c.written x × MayTake Covered q ground c.contents x) → (c : Stock K V) (xs : List Choice) → MayAll May c xs → (is_batched ground ≡ true → length xs ≤ batch) → EndsStep Spared OnTime ordered q ground batch (length xs) (after_choices c.contents xs) (written_after_choices c.written xs) → FollowsGrounds Covered q Spared OnTime ordered batch (ground ∷ []) c.contents c.written xs
-  grounds-one batch May ground takes c xs may few ends = (xs, [], sym (append-nil xs), all_taken May ground takes c xs may, (few, ends), refl)
+  pub grounds-one : (batch : ℕ) (May : Stock K V → Choice → Type 0) (ground : Ground) → ((c : Stock K V) (x : Choice) → May c x → (IsKeptWith ordered c → IsInTurn q ordered ground c.contents c.written x) × MayTake Covered q ground c.contents x) → (c : Stock K V) (xs : List Choice) → IsKeptWith ordered c → MayAll May c xs → (is_batched ground ≡ true → length xs ≤ batch) → EndsStep Spared OnTime ordered q ground batch (length xs) (after_choices c.contents xs) (written_after_choices c.written xs) → FollowsGrounds Covered q Spared OnTime ordered batch (ground ∷ []) c.contents c.written xs
+  grounds-one batch May ground takes c xs kept may few ends = (xs, [], sym (append-nil xs), all_taken May ground takes c xs kept may, (few, ends), refl)
 
   abbrev Follows : ℕ → List Ground → Contents K V → List ℕ → List Choice → Type 0
   Follows batch gs c ns xs = FollowsGrounds Covered q Spared OnTime ordered batch gs c ns xs

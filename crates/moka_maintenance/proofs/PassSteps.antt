@@ -28,7 +28,7 @@ use Rattle.moka_maintenance.specs.Steps.{Stock, MayLeave, MayRun, MayAll, AreAll
 use Rattle.moka_maintenance.specs.Sweeps.{tests_in, ground_of, is_taken, sweeps_reads, sweeps_writes, HasStopped, IsAtRest, IsDone, AreAllTurns, MayTurn, MayExpire, IsSwept, ExpiresDue}
 use Rattle.moka_maintenance.specs.Passes.{IsPass, HasSwept}
 use Rattle.moka_maintenance.proofs.Fronts.{within-not_over}
-use Rattle.moka_maintenance.proofs.Grounded.{Takes, ends-swept, expiry_takes, grounds-on, grounds-one, scan_takes, take_runs, turn_takes, told_by_tests}
+use Rattle.moka_maintenance.proofs.Grounded.{Takes, ends-swept, expiry_takes, grounds-on, grounds-one, IsKeptWith, kept-on, scan_takes, take_runs, turn_takes, told_by_tests}
 use Rattle.moka_maintenance.proofs.Scanned.{dropped-later, both_more}
 use Rattle.moka_maintenance.proofs.Stepped.{may-also, members-steps, none-steps, removed-on, removed-few, run_leaves, stepped-none, stepped-on, stepped-also, shorter, still_there}
 
@@ -148,13 +148,13 @@ module _ {K V L P : Type 0} (tells : L → K → V → RemovalCause → L → Ty
     stage_shorter : (a b : Stock K V) (l m : Option L) (h : IsStepped tells May a b l m) → length b.contents.access + length (removed_by h.steps) ≤ length a.contents.access
     stage_shorter = shorter tells May (λ c x may. run_leaves (tests_in q) says ps c x (runs c x may))
 
-    module _ (timely : (c : Stock K V) (x : Choice) → May c x → makes_room x ≡ false) (a b : Stock K V) (l m : Option L) (h : IsStepped tells May a b l m) (few : is_batched ground ≡ true → length h.steps ≤ batch) (ends : EndsStep (NoneCovers says ps) OnTime ordered (tests_in q) ground batch (length h.steps) (after_choices a.contents h.steps) (written_after_choices a.written h.steps)) where
+    module _ (timely : (c : Stock K V) (x : Choice) → May c x → makes_room x ≡ false) (a b : Stock K V) (kept : IsKeptWith ordered a) (l m : Option L) (h : IsStepped tells May a b l m) (few : is_batched ground ≡ true → length h.steps ≤ batch) (ends : EndsStep (NoneCovers says ps) OnTime ordered (tests_in q) ground batch (length h.steps) (after_choices a.contents h.steps) (written_after_choices a.written h.steps)) where
       -- of one ground
       stage-one : (removed turns : ℕ) (left : Bool) → removed ≡ length (removed_by h.steps) → length h.steps + length b.contents.access ≤ turns + length a.contents.access → (left ≡ true → batch ≤ removed) → IsStage tells says ps q batch ordered OnTime (ground ∷ []) turns a b l m removed left
       unfolding stepped-also
       stage-one removed turns left count many full = record {
         by = stepped-also tells May (MayRun says ps (tests_in q)) runs a b l m h;
-        in_order = grounds-one (SomeCovers says ps) (tests_in q) (NoneCovers says ps) OnTime ordered batch May ground takes a h.steps h.may few ends;
+        in_order = grounds-one (SomeCovers says ps) (tests_in q) (NoneCovers says ps) OnTime ordered batch May ground takes a h.steps kept h.may few ends;
         count = count;
         many = many;
         full = full;
@@ -168,21 +168,21 @@ module _ {K V L P : Type 0} (tells : L → K → V → RemovalCause → L → Ty
           (λ is. absurd (true≢false (sym is)))
 
   -- by timers
-  stage-due : (a b : Stock K V) (l m : Option L) (removed : ℕ) → ExpiresDue tells q a b l m removed → NoneLasts OnTime q b.contents → IsStage tells says ps q batch ordered OnTime (ByTimer ∷ []) 0 a b l m removed false
-  stage-due a b l m removed h none =
+  stage-due : (a b : Stock K V) → IsKeptWith ordered a → (l m : Option L) (removed : ℕ) → ExpiresDue tells q a b l m removed → NoneLasts OnTime q b.contents → IsStage tells says ps q batch ordered OnTime (ByTimer ∷ []) 0 a b l m removed false
+  stage-due a b kept l m removed h none =
       subst (λ n. IsStage tells says ps q batch ordered OnTime (ByTimer ∷ []) 0 a b l m n false) (sym h.count)
-      (stage-removals (MayExpire q) ByTimer (expiry_takes says ps q ordered) (timely_expiry q) a b l m h.by (λ e. absurd (true≢false (sym e))) (subst (λ (s : Stock K V). NoneLasts OnTime q s.contents) h.by.led none) (λ c n may. true≢false (sym may.0)) (λ c i none. none))
+      (stage-removals (MayExpire q) ByTimer (expiry_takes says ps q ordered) (timely_expiry q) a b kept l m h.by (λ e. absurd (true≢false (sym e))) (subst (λ (s : Stock K V). NoneLasts OnTime q s.contents) h.by.led none) (λ c n may. true≢false (sym may.0)) (λ c i none. none))
 
   -- of the scan
-  stage-scanned : (a b : Stock K V) (l m : Option L) (h : IsStepped tells (MayScan says ps) a b l m) → length h.steps ≤ batch → (ordered ≡ true → EndsScan (NoneCovers says ps) batch (length h.steps) b.contents) → IsStage tells says ps q batch ordered OnTime (ByPredicate ∷ []) 0 a b l m (length (removed_by h.steps)) false
-  stage-scanned a b l m h few ends =
-      stage-removals (MayScan says ps) ByPredicate (scan_takes says ps q ordered) (timely_scan says ps) a b l m h (λ _. few)
+  stage-scanned : (a b : Stock K V) → IsKeptWith ordered a → (l m : Option L) (h : IsStepped tells (MayScan says ps) a b l m) → length h.steps ≤ batch → (ordered ≡ true → EndsScan (NoneCovers says ps) batch (length h.steps) b.contents) → IsStage tells says ps q batch ordered OnTime (ByPredicate ∷ []) 0 a b l m (length (removed_by h.steps)) false
+  stage-scanned a b kept l m h few ends =
+      stage-removals (MayScan says ps) ByPredicate (scan_takes says ps q ordered) (timely_scan says ps) a b kept l m h (λ _. few)
       (λ is. subst (λ (c : Stock K V). EndsScan (NoneCovers says ps) batch (length h.steps) c.contents) h.led (ends is)) (λ c n none. none) (λ c i none. none)
 
   -- of a sweep by moments
-  stage-swept : (sweep : Sweep) → is_by_moment sweep ≡ true → (a b : Stock K V) (l m : Option L) (removed : ℕ) (left : Bool) → IsSwept tells q sweep batch a b l m removed left → IsStage tells says ps q batch ordered OnTime (ground_of sweep ∷ []) batch a b l m removed left
-  stage-swept sweep timely a b l m removed left h =
-      stage-one (MayTurn q sweep) (ground_of sweep) (turn_takes says ps q ordered sweep) (timely_turn q sweep timely) a b l m h.by (λ _. h.few) (ends-swept (NoneCovers says ps) OnTime ordered q sweep batch a b h.by.steps h.by.led (swept-done tells q sweep batch a b l m removed left h)) removed batch left h.count
+  stage-swept : (sweep : Sweep) → is_by_moment sweep ≡ true → (a b : Stock K V) → IsKeptWith ordered a → (l m : Option L) (removed : ℕ) (left : Bool) → IsSwept tells q sweep batch a b l m removed left → IsStage tells says ps q batch ordered OnTime (ground_of sweep ∷ []) batch a b l m removed left
+  stage-swept sweep timely a b kept l m removed left h =
+      stage-one (MayTurn q sweep) (ground_of sweep) (turn_takes says ps q ordered sweep) (timely_turn q sweep timely) a b kept l m h.by (λ _. h.few) (ends-swept (NoneCovers says ps) OnTime ordered q sweep batch a b h.by.steps h.by.led (swept-done tells q sweep batch a b l m removed left h)) removed batch left h.count
       (let less = stage_shorter (MayTurn q sweep) (ground_of sweep) (turn_takes says ps q ordered sweep) a b l m h.by in let few = h.few in omega arith)
       (λ is. (let used = h.full is in omega arith))
 
@@ -214,7 +214,7 @@ idle_sweeps false true invalid over = refl
 idle_sweeps false false true over = refl
 idle_sweeps false false false over = refl
 
-module _ {K V L P S : Type 0} (tells : L → K → V → RemovalCause → L → Type 0) (says : P → K → V → Bool → Type 0) (ps qs : List (Registered P)) (q : Tests) (batch : ℕ) (a b c : Stock K V) (d0 d1 : Kept K V S) (e : Stock K V) (l m n o u p : Option L) (due wrote read room : ℕ) (x y z scan : Bool) (OnTime : Type 0)
+module _ {K V L P S : Type 0} (tells : L → K → V → RemovalCause → L → Type 0) (says : P → K → V → Bool → Type 0) (ps qs : List (Registered P)) (q : Tests) (batch : ℕ) (a b c : Stock K V) (d0 d1 : Kept K V S) (e : Stock K V) (l m n o u p : Option L) (due wrote read room : ℕ) (x y z scan : Bool) (OnTime : Type 0) (kept : IsKeptWith d0.ordered a)
     (by_timers : ExpiresDue tells q a b l m due) (none_lasts : NoneLasts OnTime q b.contents) (by_write : IsSwept tells q Written batch b c m n wrote x) (by_read : IsSwept tells q Read batch c (stock_in d0) n o read y) (by_scan : IsScanned tells says ps batch d0 d1 qs o u scan) (surplus : IsSwept tells q Surplus batch (stock_in d1) e u p room z) where
   abbrev d : Stock K V
   d = stock_in d0
@@ -228,15 +228,28 @@ module _ {K V L P S : Type 0} (tells : L → K → V → RemovalCause → L → 
   scan_few : length by_scan.by.steps ≤ batch
   scan_few = let few = by_scan.few in let most = by_scan.goes.most in omega arith
 
+  -- at each step the write list is as empty as before, where none is kept
+  kept-b : IsKeptWith d0.ordered b
+  kept-b = kept-on d0.ordered a b by_timers.by.steps by_timers.by.led kept
+
+  kept-c : IsKeptWith d0.ordered c
+  kept-c = kept-on d0.ordered b c by_write.by.steps by_write.by.led kept-b
+
+  kept-d : IsKeptWith d0.ordered d
+  kept-d = kept-on d0.ordered c d by_read.by.steps by_read.by.led kept-c
+
+  kept-f : IsKeptWith d0.ordered f
+  kept-f = kept-on d0.ordered d f by_scan.by.steps by_scan.by.led kept-d
+
   first : IsStage tells says ps q batch d0.ordered OnTime (ByTimer ∷ ByWrite ∷ []) (0 + batch) a c l n (due + wrote) (false || x)
-  first = stage-on tells says ps q batch d0.ordered OnTime (ByTimer ∷ []) (ByWrite ∷ []) 0 batch a b c l m n due wrote false x (stage-due tells says ps q batch d0.ordered OnTime a b l m due by_timers none_lasts) (stage-swept tells says ps q batch d0.ordered OnTime Written refl b c m n wrote x by_write)
+  first = stage-on tells says ps q batch d0.ordered OnTime (ByTimer ∷ []) (ByWrite ∷ []) 0 batch a b c l m n due wrote false x (stage-due tells says ps q batch d0.ordered OnTime a b kept l m due by_timers none_lasts) (stage-swept tells says ps q batch d0.ordered OnTime Written refl b c kept-b m n wrote x by_write)
 
   moments : IsStage tells says ps q batch d0.ordered OnTime (ByTimer ∷ ByWrite ∷ ByRead ∷ []) (0 + batch + batch) a d l o (due + wrote + read) (x || y)
-  moments = stage-on tells says ps q batch d0.ordered OnTime (ByTimer ∷ ByWrite ∷ []) (ByRead ∷ []) (0 + batch) batch a c d l n o (due + wrote) read x y first (stage-swept tells says ps q batch d0.ordered OnTime Read refl c d n o read y by_read)
+  moments = stage-on tells says ps q batch d0.ordered OnTime (ByTimer ∷ ByWrite ∷ []) (ByRead ∷ []) (0 + batch) batch a c d l n o (due + wrote) read x y first (stage-swept tells says ps q batch d0.ordered OnTime Read refl c d kept-c n o read y by_read)
 
   -- with the scan
   scanned : IsStage tells says ps q batch d0.ordered OnTime (ByTimer ∷ ByWrite ∷ ByRead ∷ ByPredicate ∷ []) (0 + batch + batch + 0) a f l u (due + wrote + read + gone) ((x || y) || false)
-  scanned = stage-on tells says ps q batch d0.ordered OnTime (ByTimer ∷ ByWrite ∷ ByRead ∷ []) (ByPredicate ∷ []) (0 + batch + batch) 0 a d f l o u (due + wrote + read) gone (x || y) false moments (stage-scanned tells says ps q batch d0.ordered OnTime d f o u by_scan.by scan_few by_scan.ends)
+  scanned = stage-on tells says ps q batch d0.ordered OnTime (ByTimer ∷ ByWrite ∷ ByRead ∷ []) (ByPredicate ∷ []) (0 + batch + batch) 0 a d f l o u (due + wrote + read) gone (x || y) false moments (stage-scanned tells says ps q batch d0.ordered OnTime d f kept-d o u by_scan.by scan_few by_scan.ends)
 
   last : IsStepped tells (MayRun says ps (tests_in q)) f e u p
   last = stepped-also tells (MayTurn q Surplus) (MayRun says ps (tests_in q)) (λ c x may. take_runs says ps (tests_in q) BySurplus c x (turn_takes says ps q d0.ordered Surplus c x may).1) f e u p surplus.by
@@ -249,7 +262,7 @@ module _ {K V L P S : Type 0} (tells : L → K → V → RemovalCause → L → 
   unfolding last stepped-also
   ordered =
       grounds-on (SomeCovers says ps) (tests_in q) (NoneCovers says ps) OnTime d0.ordered batch (ByTimer ∷ ByWrite ∷ ByRead ∷ ByPredicate ∷ []) (BySurplus ∷ []) a f scanned.by.steps surplus.by.steps scanned.by.led scanned.in_order
-      (grounds-one (SomeCovers says ps) (tests_in q) (NoneCovers says ps) OnTime d0.ordered batch (MayTurn q Surplus) BySurplus (turn_takes says ps q d0.ordered Surplus) f surplus.by.steps surplus.by.may (λ _. surplus.few) (ends-swept (NoneCovers says ps) OnTime d0.ordered q Surplus batch f e surplus.by.steps surplus.by.led (swept-done tells q Surplus batch f e u p room z surplus)))
+      (grounds-one (SomeCovers says ps) (tests_in q) (NoneCovers says ps) OnTime d0.ordered batch (MayTurn q Surplus) BySurplus (turn_takes says ps q d0.ordered Surplus) f surplus.by.steps kept-f surplus.by.may (λ _. surplus.few) (ends-swept (NoneCovers says ps) OnTime d0.ordered q Surplus batch f e surplus.by.steps surplus.by.led (swept-done tells q Surplus batch f e u p room z surplus)))
 
   -- where more is left, a sweep removed a batch
   some : (x || y || z) ≡ true → 1 ≤ batch → 1 ≤ due + wrote + read + room
@@ -302,7 +315,7 @@ module _ {K V L P S : Type 0} (tells : L → K → V → RemovalCause → L → 
   wrote_steps : length by_write.by.steps ≤ length first.by.steps
   unfolding first stage-on stage-swept stage-one stepped-on stepped-also
   wrote_steps =
-      let timers = stage-due tells says ps q batch d0.ordered OnTime a b l m due by_timers none_lasts in
+      let timers = stage-due tells says ps q batch d0.ordered OnTime a b kept l m due by_timers none_lasts in
       let both : length first.by.steps ≡ length timers.by.steps + length by_write.by.steps = length-append timers.by.steps by_write.by.steps in
       omega arith
 

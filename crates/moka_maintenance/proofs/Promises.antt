@@ -29,15 +29,15 @@ use Rattle.moka_parts.specs.Order.{IsAtRestByWrite, write_list_at_end, write_lis
 use Rattle.moka_parts.specs.Grounds.{AreDrops, FollowsGrounds, IsAtRestByRead, grounds_of}
 use Rattle.moka_parts.proofs.Maps.{same_by_order}
 use Rattle.moka_parts.proofs.Options.{mapped_is_some}
-use Rattle.moka_parts.proofs.RunKeeps.{run_keeps}
-use Rattle.moka_parts.proofs.RunKeepsSound.{run_kept}
-use Rattle.moka_parts.proofs.StepsKeep.{run_valid}
+use Rattle.moka_laws.proofs.RunKeeps.{run_keeps}
+use Rattle.moka_laws.proofs.RunKeepsSound.{run_kept}
+use Rattle.moka_laws.proofs.StepsKeep.{run_valid}
 use Rattle.moka_parts.proofs.Counting.{exact_count}
-use Rattle.moka_parts.proofs.Dropped.{covering_stays}
-use Rattle.moka_parts.proofs.OneMore.{removed_by_append}
-use Rattle.moka_parts.proofs.AtEnd.{exact_when_nothing_waits, nothing_waits, all_settled, count_is_near, run_is_exact}
-use Rattle.moka_parts.proofs.RunReturns.{IsPromised}
-use Rattle.moka_parts.proofs.Surplus.{removes_enough, removes_first, removes_for_size_alone, leaves_settled}
+use Rattle.moka_laws.proofs.Dropped.{covering_stays}
+use Rattle.moka_laws.proofs.OneMore.{removed_by_append}
+use Rattle.moka_laws.proofs.AtEnd.{exact_when_nothing_waits, nothing_waits, all_settled, count_is_near, run_is_exact}
+use Rattle.moka_laws.proofs.RunReturns.{IsPromised}
+use Rattle.moka_laws.proofs.Surplus.{removes_enough, removes_first, removes_for_size_alone, leaves_settled}
 use Rattle.moka_maintenance.specs.declared.sweep.Tests.{Tests}
 use Rattle.moka_maintenance.specs.declared.sweep.Sweep.{Sweep}
 use Rattle.moka_maintenance.specs.declared.sweep.Sweep.TheVariants.{Written, Read, Surplus}

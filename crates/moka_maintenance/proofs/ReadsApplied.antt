@@ -4,7 +4,7 @@ use Rattle.std.proofs.lemmas.List.Elements.{Contains-append_cases, Contains-appe
 use Rattle.std.proofs.lemmas.List.{append-nil, append_assoc}
 use Rattle.moka_parts.specs.Reads.{after_read, after_reads}
 use Rattle.moka_parts.specs.State.{Contents}
-use Rattle.moka_sketch.specs.Frequency.{Table, counted_once}
+use Rattle.moka_parts.specs.Frequency.{Table, counted_once}
 use Rattle.moka_store.specs.Store.{Kept}
 use Rattle.moka_maintenance.specs.declared.queued.Outcome.{Outcome}
 use Rattle.moka_maintenance.specs.declared.queued.Outcome.TheVariants as O

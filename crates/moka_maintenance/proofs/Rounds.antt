@@ -12,7 +12,7 @@ use Rattle.moka_parts.specs.Records.{is_listed, is_settled, numbers_of}
 use Rattle.moka_parts.specs.Order.{IsListOf}
 use Rattle.moka_parts.specs.Scan.{AreUncovered}
 use Rattle.moka_parts.proofs.Maps.{itself_tested, same_by_test, same_or_apart}
-use Rattle.moka_parts.proofs.Scanned.{uncovered-append, uncovered-kept, listed_append}
+use Rattle.moka_laws.proofs.Scanned.{uncovered-append, uncovered-kept, listed_append}
 use Rattle.moka_store.specs.Store.{Kept}
 use Rattle.moka_maintenance.specs.Upkeep.{SetsNoTimer}
 use Rattle.moka_maintenance.proofs.Upkeep.{untimed-on}

@@ -14,7 +14,7 @@ use Rattle.moka_parts.specs.Maintenance.{Choice, Removes, MovesToBack, Drops}
 use Rattle.moka_parts.specs.Order.{IsListOf}
 use Rattle.moka_parts.specs.Records.{Records, counted_of, is_applied, is_listed, is_member, is_settled, settled_numbers, without_member}
 use Rattle.moka_parts.specs.Visibility.{NoneCovers}
-use Rattle.moka_parts.proofs.Scanned.{listed_append}
+use Rattle.moka_laws.proofs.Scanned.{listed_append}
 use Rattle.moka_parts.proofs.WriteList.{unlisted_all}
 use Rattle.moka_store.specs.Store.{Kept}
 use Rattle.moka_store.proofs.Gets.{get-past_remove}

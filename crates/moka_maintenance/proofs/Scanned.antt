@@ -12,7 +12,7 @@ use Rattle.moka_parts.specs.Order.{IsListOf}
 use Rattle.moka_parts.specs.State.{Contents}
 use Rattle.moka_parts.specs.Grounds.{AreDrops}
 use Rattle.moka_parts.proofs.Maps.{itself_tested, same_by_test}
-use Rattle.moka_parts.proofs.Scanned.{not_one_covers, uncovered-none}
+use Rattle.moka_laws.proofs.Scanned.{not_one_covers, uncovered-none}
 use Rattle.moka_store.specs.Store.{Kept}
 use Rattle.moka_maintenance.proofs.Upkeep.{untimed-none}
 use Rattle.moka_maintenance.specs.Scanning.{round_from, MayScan, GoesRound, IsRound, AreDropped, AllDropped, IsScanned}

@@ -12,7 +12,7 @@ use Rattle.moka_parts.specs.Visibility.{SomeCovers}
 use Rattle.moka_parts.specs.Records.{counted_of, is_applied, is_member, is_settled, member, without_member, to_back}
 use Rattle.moka_parts.specs.Maintenance.{Choice, Removes, MovesToBack, Drops, Tests, left_by_choice, left_by_choices}
 use Rattle.moka_parts.specs.Bounds.{removed_by}
-use Rattle.moka_parts.proofs.OneMore.{removed_by_append}
+use Rattle.moka_laws.proofs.OneMore.{removed_by_append}
 use Rattle.moka_store.proofs.Gets.{after_remove, get-past_remove}
 use Rattle.moka_parts.proofs.AccessList.{counted-to_back}
 use Rattle.moka_store.proofs.Members.{counted-without}

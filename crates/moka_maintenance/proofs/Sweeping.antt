@@ -13,7 +13,7 @@ use Rattle.moka_parts.specs.Bounds.{removed_by}
 use Rattle.moka_parts.specs.Order.{IsListOf}
 use Rattle.moka_parts.proofs.AccessList.{distinct_taken_out, distinct-to_back}
 use Rattle.moka_parts.proofs.Maps.{same_by_test, itself_tested}
-use Rattle.moka_parts.proofs.OrderedList.{choice_listed}
+use Rattle.moka_laws.proofs.OrderedList.{choice_listed}
 use Rattle.moka_maintenance.specs.declared.sweep.Tests.{Tests}
 use Rattle.moka_maintenance.specs.declared.sweep.Sweep.{Sweep}
 use Rattle.moka_maintenance.specs.declared.sweep.Sweep.TheVariants.{Written, Read, Surplus}

@@ -14,7 +14,7 @@ use Rattle.moka_parts.specs.Records.{Records, is_applied, is_listed, is_settled,
 use Rattle.moka_parts.specs.Visibility.{NoneCovers}
 use Rattle.moka_parts.specs.Maintenance.{Choice, Removes, MovesToBack, Drops}
 use Rattle.moka_parts.proofs.Maps.{itself_tested, same_by_test, same_or_apart}
-use Rattle.moka_parts.proofs.Scanned.{uncovered-none, uncovered-push, uncovered-kept}
+use Rattle.moka_laws.proofs.Scanned.{uncovered-none, uncovered-push, uncovered-kept}
 use Rattle.moka_parts.proofs.WriteList.{listed_taken_out, listed_past_taken_out, once_taken_out}
 use Rattle.moka_store.specs.Store.{Kept, number_after, IsPlaced, IsOrdered}
 use Rattle.moka_store.specs.declared.store.Handle.{Handle}

@@ -17,10 +17,10 @@ use Rattle.moka_parts.specs.Writes.{Preferred, Refused, fate_by_frequency}
 use Rattle.moka_parts.proofs.AccessList.{absent_taken_out, distinct-all_to_back}
 use Rattle.moka_parts.proofs.Counting.{front_once, rest_once, counted_front}
 use Rattle.moka_parts.proofs.Maps.{itself_tested, same_by_test}
-use Rattle.moka_parts.proofs.Surplus.{prefix_of_none}
-use Rattle.moka_parts.proofs.Conserved.{still_within}
+use Rattle.moka_laws.proofs.Surplus.{prefix_of_none}
+use Rattle.moka_laws.proofs.Conserved.{still_within}
 use Rattle.moka_store.specs.Store.{member_after}
-use Rattle.moka_sketch.specs.Frequency.{frequency}
+use Rattle.moka_parts.specs.Frequency.{frequency}
 use Rattle.moka_maintenance.specs.Chosen.{Chooses}
 use Rattle.moka_maintenance.proofs.Fronts.{settled-append, settled-pushed, none_front}
 use Rattle.moka_maintenance.proofs.Popped.{none_first, front_empty, Head, head_of}

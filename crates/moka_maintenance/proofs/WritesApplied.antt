@@ -10,7 +10,7 @@ use Rattle.moka_parts.specs.declared.records.Ticketed.{Ticketed}
 use Rattle.moka_parts.specs.Order.{written_after_write, written_after_writes}
 use Rattle.moka_parts.specs.State.{Contents}
 use Rattle.moka_parts.specs.Writes.{after_write, after_writes, left_by_write, left_by_writes, AreAllMoves}
-use Rattle.moka_sketch.specs.Frequency.{Table}
+use Rattle.moka_parts.specs.Frequency.{Table}
 use Rattle.moka_store.specs.Store.{Kept}
 use Rattle.moka_maintenance.specs.declared.bounds.Bounds.{Bounds}
 use Rattle.moka_maintenance.specs.declared.queued.QueuedWrite.{QueuedWrite}

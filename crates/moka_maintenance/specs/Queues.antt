@@ -13,7 +13,7 @@ use Rattle.moka_parts.specs.Writes.{after_fate, left_by_fate, fate_by_frequency,
 use Rattle.moka_parts.specs.Maintenance.{with_sketch}
 use Rattle.moka_parts.specs.Reads.{after_reads}
 use Rattle.moka_parts.specs.Order.{written_after_fate, written_after_write, written_after_writes}
-use Rattle.moka_sketch.specs.Frequency.{Table}
+use Rattle.moka_parts.specs.Frequency.{Table}
 use Rattle.moka_store.specs.Store.{Kept}
 use Rattle.moka_maintenance.specs.declared.admission.PlacedUpsert.{PlacedUpsert}
 use Rattle.moka_maintenance.specs.declared.bounds.Bounds.{Bounds}

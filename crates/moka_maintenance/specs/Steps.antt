@@ -10,7 +10,7 @@ use Rattle.moka_parts.specs.State.{Contents}
 use Rattle.moka_parts.specs.Surroundings.{Heard}
 use Rattle.moka_parts.specs.Maintenance.{Choice, Removes, MovesToBack, Drops, Tests, IsJustified, after_choice, after_choices, left_by_choices}
 use Rattle.moka_parts.specs.Order.{written_after_choice, written_after_choices}
-use Rattle.moka_sketch.specs.Frequency.{Table}
+use Rattle.moka_parts.specs.Frequency.{Table}
 use Rattle.moka_store.specs.Store.{Kept}
 
 -- what steps work on: contents, whose sketch they do not see, and the write list

@@ -3,7 +3,7 @@
 //! moka: `sync::base_cache::Inner::admit`.
 ghost use Rattle.std.specs.Prelude.{◌≡◌, ◌+◌, ◌<◌, ◌^◌, ℕ, true, false, None, MatchOption, take};
 ghost use Rattle.std.specs.FinMap as finite;
-ghost use Rattle.moka_sketch.specs.Frequency.{frequency};
+ghost use Rattle.moka_parts.specs.Frequency.{frequency};
 ghost use Rattle.moka_parts.specs.Candidates.{hash_of};
 ghost use Rattle.moka_parts.specs.Records.{counted_of, is_settled, member, without_numbers};
 ghost use Rattle.moka_parts.specs.Writes.{left_with, without_victims};

@@ -145,6 +145,7 @@ where
         result.removed result.has_more result.scan_has_more }
     ensures kept { UpkeepAt terms.tests.now.0 store.old store.new }
 {
+    store.invariant_holds();
     let due = expire_due(store, notifier, terms.tests);
     let by_write = take_step(store, notifier, terms, Sweep::Written);
     let by_read = take_step(store, notifier, terms, Sweep::Read);

@@ -2,7 +2,7 @@
 //!
 //! moka: `sync::base_cache::Inner::should_enable_frequency_sketch`, `Inner::enable_frequency_sketch`.
 ghost use Rattle.std.specs.Prelude.{◌≡◌, ◌<◌, Bool, Some};
-ghost use Rattle.moka_sketch.specs.Frequency.{size_asked};
+ghost use Rattle.moka_parts.specs.Frequency.{size_asked};
 ghost use Rattle.moka_parts.specs.Maintenance.{is_sketch_due, with_sketch};
 ghost use Rattle.moka_maintenance.specs.Steps.{contents_with};
 

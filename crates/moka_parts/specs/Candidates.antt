@@ -6,7 +6,7 @@ use Rattle.std.specs.FinMap.{get}
 use Rattle.moka_parts.specs.declared.records.Member.{Member}
 use Rattle.moka_parts.specs.Records.{Records, is_settled, settled_members}
 use Rattle.moka_parts.specs.State.{Contents}
-use Rattle.moka_sketch.specs.Frequency.{frequency}
+use Rattle.moka_parts.specs.Frequency.{frequency}
 
 -- the shortest front whose counted weights sum to at least the weight, if there is one
 abbrev pub prefix : List Member → ℕ → Option (List Member)

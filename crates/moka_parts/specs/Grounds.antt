@@ -68,11 +68,11 @@ module _ {K V : Type 0} (q : Tests) where
   IsAtRestByRead c = (n : ℕ) (r : Record K V) → is_front n c.access ≡ true → get c.records n ≡ Some r
       → (is_past_read q r ≡ false) × (is_read_before q.invalid_before r ≡ false)
 
-  -- the number is the one to which the step has come: a sweep takes the front of its order, and one of the surplus only
-  -- while the capacity is exceeded
+  -- the number is the one to which the step has come: a sweep takes the front of its order, one by the last write only
+  -- where that order is kept, and one of the surplus only while the capacity is exceeded
   abbrev pub IsTurnOf : Bool → Ground → Contents K V → List ℕ → ℕ → Type 0
   IsTurnOf ordered ByTimer c write_list n = ⊤
-  IsTurnOf ordered ByWrite c write_list n = ordered ≡ true → slice_get write_list 0 ≡ Some n
+  IsTurnOf ordered ByWrite c write_list n = (ordered ≡ true) × (slice_get write_list 0 ≡ Some n)
   IsTurnOf ordered ByRead c write_list n = is_front n c.access ≡ true
   IsTurnOf ordered ByPredicate c write_list n = ⊤
   IsTurnOf ordered BySurplus c write_list n = (is_front n c.access && is_over q.capacity c.access) ≡ true

@@ -18,7 +18,7 @@ use Rattle.moka_parts.specs.Settling.{IsConsistentState, IsWellNumbered, IsValid
 use Rattle.moka_parts.specs.Time.{moment_of, is_before}
 use Rattle.moka_parts.specs.Records.{Records, Notice, record_of_key, with_record, numbers_of, total_weight}
 use Rattle.moka_parts.specs.State.{State, Settings, Contents, Meaning, Events, is_disabled, new_state, keeps_write_list}
-use Rattle.moka_sketch.specs.Frequency.{frequency}
+use Rattle.moka_parts.specs.Frequency.{frequency}
 use Rattle.moka_parts.specs.Candidates.{prefix, frequency_of_all}
 use Rattle.moka_parts.specs.Bounds.{removed_by, IsPlainSurplus}
 use Rattle.moka_parts.specs.Writes.{fate_by_policy, Preferred}

@@ -4,7 +4,7 @@ pub mod Records
 pub mod Hashing
 pub mod Surroundings
 pub mod Notification
-pub use Rattle.moka_sketch.specs.Frequency
+pub mod Frequency
 pub mod Closures
 pub mod Housekeeping
 pub mod Housekeeper

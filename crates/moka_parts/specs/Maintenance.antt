@@ -13,7 +13,7 @@ use Rattle.moka_parts.specs.Records.{Notice, when_listening, is_member, without_
 use Rattle.moka_parts.specs.State.{State, Settings, Contents, contents, with_contents, is_disabled}
 use Rattle.moka_parts.specs.Time.{has_passed, deadline}
 use Rattle.moka_parts.specs.Visibility.{is_expired, is_written_before, is_read_before, Covers, SomeCovers}
-use Rattle.moka_sketch.specs.Frequency.{Table, no_counts, size_asked, table_length_for}
+use Rattle.moka_parts.specs.Frequency.{Table, no_counts, size_asked, table_length_for}
 use Rattle.moka_parts.specs.Reads.{after_reads}
 use Rattle.moka_parts.specs.Writes.{after_writes, left_by_writes, AreAllMoves, is_tiny_lfu}
 

@@ -5,7 +5,7 @@ use Rattle.moka_parts.specs.declared.records.ReadOperation.{ReadOperation}
 use Rattle.moka_parts.specs.declared.records.ReadOperation.TheVariants.{Hit, Miss}
 use Rattle.moka_parts.specs.Records.{to_back}
 use Rattle.moka_parts.specs.State.{Contents}
-use Rattle.moka_sketch.specs.Frequency.{counted_once}
+use Rattle.moka_parts.specs.Frequency.{counted_once}
 
 module _ {K V : Type 0} where
   -- a read counts its hash; a hit of a record in the map moves its member, if it has one, to the back

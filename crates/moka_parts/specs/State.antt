@@ -12,7 +12,7 @@ use Rattle.moka_parts.specs.declared.records.Registered.{Registered}
 use Rattle.moka_parts.specs.Time.{greatest}
 use Rattle.moka_parts.specs.Policy.{Limits}
 use Rattle.moka_parts.specs.Records.{Records, Operations, Notice, total_weight}
-use Rattle.moka_sketch.specs.Frequency.{Table}
+use Rattle.moka_parts.specs.Frequency.{Table}
 use Rattle.moka_parts.specs.Housekeeping.{Housekeeping, new_housekeeping}
 
 -- what never changes; durations are in nanoseconds

@@ -22,11 +22,11 @@ use Rattle.moka_parts.specs.Surroundings.{Leads, NoticeStep, Heard}
 use Rattle.moka_parts.specs.Calls.{NotifiesAfter}
 use Rattle.moka_parts.specs.Runs.{Step, CallStep, AreSteps, PromisedRun, calls_of, notices_of, last_state}
 use Rattle.moka_parts.specs.Laws.{values_of, values_put, values_handed, values_told, AllConserveValues}
-use Rattle.moka_parts.proofs.ConservedCalls.{tells_each_once}
+use Rattle.moka_laws.proofs.ConservedCalls.{tells_each_once}
 use Rattle.moka_parts.specs.declared.records.Record.{Record}
-use Rattle.moka_parts.proofs.NewCache.{new_is_valid}
+use Rattle.moka_laws.proofs.NewCache.{new_is_valid}
 use Rattle.moka_parts.proofs.Values.{values-empty}
-use Rattle.moka_parts.proofs.Promises.{weaker_steps}
+use Rattle.moka_laws.proofs.Promises.{weaker_steps}
 use Rattle.moka_script.specs.declared.key_range.KeyRange.{KeyRange}
 use Rattle.moka_script.specs.Calls.{CallText}
 use Rattle.moka_parts.proofs.RunsGoOn.{promised_is_run}

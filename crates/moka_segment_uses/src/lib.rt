@@ -2,5 +2,3 @@
 #![tactic(auto)]
 
 pub mod shared;
-#[cfg(test)]
-mod tests;

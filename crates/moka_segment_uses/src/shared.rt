@@ -3,17 +3,17 @@ ghost use Rattle.std.specs.Prelude.{◌≡◌, ◌≤◌, IfErr, IfSome};
 ghost use Rattle.moka_engine.specs.Hashing.{key_hash};
 ghost use Rattle.moka_cache.specs.Synchronous.{meaning_of};
 ghost use Rattle.moka_segments.specs.Keys.{AreInOneSegment, KeysBelong};
-ghost use Rattle.moka_segments.specs.Moves.{InsertsThenGets};
+ghost use Rattle.moka_segment_laws.specs.Moves.{InsertsThenGets};
 ghost use Rattle.moka_segments.specs.Whole.{saturated, total, whole_capacity};
 ghost use Rattle.moka_segment_uses.specs.Shared.{EachRan, InsertsAndFinds, InsertsInOne};
 
 use moka_engine::{
     Clock, Expiry, FixedClock, InsertRefused, Instant, Listener, OutOfMemory, PredicateFn, Weigher,
 };
-use moka_segments::SegmentedCache;
-use moka_segments::laws::{
+use moka_segment_laws::laws::{
     calls_by_key_are_moves, calls_by_key_keep_keys, one_segment_each, own_calls_run,
 };
+use moka_segments::SegmentedCache;
 use std::hash::{BuildHasher, Hash};
 
 /// What the segments of a cache keep together.

@@ -12,8 +12,8 @@ use Rattle.moka_parts.specs.Runs.{Engine, CallStep, Step, calls_of, last_state}
 use Rattle.moka_parts.specs.State.{State, Meaning, Events}
 use Rattle.moka_parts.proofs.Lookup.{record_of_key_found}
 use Rattle.moka_parts.proofs.Maps.{same_or_apart, get_inserted, get_past_insert, nothing_at}
-use Rattle.moka_parts.proofs.RunKeeps.{Keeps, keeps_remove}
-use Rattle.moka_parts.proofs.EachCall.{IsKept, kept_by_call}
+use Rattle.moka_laws.proofs.RunKeeps.{Keeps, keeps_remove}
+use Rattle.moka_laws.proofs.EachCall.{IsKept, kept_by_call}
 use Rattle.moka_calls.specs.Synchronous.{Made}
 use Rattle.moka_cache.proofs.Keeping.{listed_run_keeps}
 use Rattle.moka_engine.specs.Config.{Config}

@@ -1,6 +1,3 @@
-pub mod ForAllCalls
-pub mod Apart
-pub mod Moving
 pub mod Each
 pub mod Sums
 pub mod OneSegment
@@ -10,5 +7,3 @@ pub mod NewSegments
 pub mod Listed
 pub mod Registered
 pub mod Keys
-pub mod Belonging
-pub mod KeptInPlace

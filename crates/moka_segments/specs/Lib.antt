@@ -5,6 +5,4 @@ pub mod Whole
 pub mod Listing
 pub mod Registering
 pub mod Keys
-pub mod Laws
-pub mod Moves
 pub mod Built

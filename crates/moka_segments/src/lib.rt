@@ -3,7 +3,6 @@
 
 pub mod building;
 pub mod iter;
-pub mod laws;
 pub mod predicates;
 pub mod router;
 pub mod segmented;

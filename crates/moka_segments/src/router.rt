@@ -58,7 +58,7 @@ impl<S> Router<S> {
     }
 
     /// The part of `capacity` that is the segment's at `index`. The parts of all segments sum to it
-    /// (`laws::shares_sum`).
+    /// (`moka_segment_laws::laws::shares_sum`).
     #[tactic(auto, unfolding(crate::specs::Routing::share))]
     pub fn share(&self, capacity: u64, index: u32) -> u64
         ensures { result ≡ share self.now.count capacity index }

@@ -6,7 +6,7 @@ use Rattle.std.proofs.lemmas.List.FromFn.{length-map-range_with_len, get_or-map-
 use Rattle.std.proofs.lemmas.Grind.{same_number_lists}
 use Rattle.std.proofs.lemmas.Nat.{and_mask, pow_pos}
 use Rattle.std.specs.Int.{IsPowerOfTwo}
-use Rattle.moka_sketch.specs.Frequency.{Table, no_counts, group_of, place_of, places_of, raised, can_rise, raised_if, counted_once}
+use Rattle.moka_parts.specs.Frequency.{Table, no_counts, group_of, place_of, places_of, raised, can_rise, raised_if, counted_once}
 use Rattle.moka_sketch.specs.Packing.{counter_at, counters_of, table_of, IsSound}
 
 pub length-counters_of : (words : List ℕ) → length (counters_of words) ≡ 16 * length words

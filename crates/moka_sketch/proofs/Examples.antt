@@ -1,6 +1,6 @@
 -- What the definitions compute on worked cases.
 use Rattle.std.proofs.Common.{◌≡◌, ℕ, true, false, List, [], ◌∷◌, ◌++◌, Option, Some, None, replicate, map, refl, ◌^◌, ◌-◌, ◌/◌}
-use Rattle.moka_sketch.specs.Frequency.{Table, table_after, places_of, frequency, counted_once, table_length_for, sketch_capacity_for, size_asked}
+use Rattle.moka_parts.specs.Frequency.{Table, table_after, places_of, frequency, counted_once, table_length_for, sketch_capacity_for, size_asked}
 use Rattle.moka_sketch.specs.Packing.{counters_of}
 
 -- ---- the counters of a hash

@@ -5,7 +5,7 @@ use Rattle.std.proofs.lemmas.Nat.{pow-add, pow_below}
 use Rattle.std.proofs.lemmas.Bool.{cases_lt}
 use Rattle.std.proofs.lemmas.Bool.Decides.{nat_tests}
 use Rattle.std.specs.Int.{IsPowerOfTwo}
-use Rattle.moka_sketch.specs.Frequency.{doubled_to, table_length_for}
+use Rattle.moka_parts.specs.Frequency.{doubled_to, table_length_for}
 
 -- the half of a power of two is no less than each lower power
 half_of_power : (j k : ℕ) → j < k → 2 ^ j ≤ 2 ^ k / 2

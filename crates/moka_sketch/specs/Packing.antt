@@ -2,7 +2,7 @@
 use Rattle.std.specs.Prelude.{ℕ, ◌*◌, ◌/◌, ◌%◌, ◌^◌, ◌<◌, ◌≤◌, List, [], ◌∷◌, Option, Some, None, length, map, slice_index}
 use Rattle.std.specs.List.{range_with_len}
 use Rattle.std.specs.Int.{IsPowerOfTwo}
-use Rattle.moka_sketch.specs.Frequency.{Table}
+use Rattle.moka_parts.specs.Frequency.{Table}
 
 -- the counter at a position of a word, from 0 to 15
 abbrev pub counter_at : ℕ → ℕ → ℕ

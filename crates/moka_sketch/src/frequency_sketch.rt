@@ -1,7 +1,7 @@
 //! How often hashes were seen lately, which decides who enters a full cache.
 ghost use Rattle.std.specs.Prelude.{◌≡◌, ◌+◌, ◌-◌, ◌^◌, ◌<◌, ◌≤◌, ℕ, min, max, Option, Some, None, List, [], ◌∷◌, ◌++◌, IfOk, OnOk, OnErr, replicate, vec_capacity};
 ghost use Rattle.std.specs.Int.{IsPowerOfTwo};
-ghost use Rattle.moka_sketch.specs.Frequency.{Table, frequency, counted_once, no_counts, table_after, length_of, table_length_for, sketch_capacity_for};
+ghost use Rattle.moka_parts.specs.Frequency.{Table, frequency, counted_once, no_counts, table_after, length_of, table_length_for, sketch_capacity_for};
 ghost use Rattle.moka_sketch.specs.Packing.{IsSound};
 
 use crate::words::{count_once, least_count};
@@ -37,7 +37,7 @@ impl Drop for FrequencySketch {
 
 impl Model for FrequencySketch {
     ghost use Rattle.std.specs.Prelude.{Option, vec_capacity};
-    ghost use Rattle.moka_sketch.specs.Frequency.{Table};
+    ghost use Rattle.moka_parts.specs.Frequency.{Table};
     ghost use Rattle.moka_sketch.specs.Packing.{table_of, IsSound};
 
     ghost Value = { Option Table };

@@ -2,9 +2,10 @@
 pub mod moka_links;
 pub mod moka_index;
 pub mod moka_structures;
-pub mod moka_sketch;
 pub mod moka_wheel;
 pub mod moka_parts;
+pub mod moka_laws;
+pub mod moka_sketch;
 pub mod moka_calls;
 pub mod moka_store;
 pub mod moka_maintenance;

@@ -2,10 +2,10 @@
 pub mod moka_tests;
 pub mod moka_engine_tests;
 pub mod moka_timed;
+pub mod moka_segment_laws;
 pub mod moka_workload;
 pub mod moka_cache_tests;
 pub mod moka_uses;
-pub mod moka_uses_tests;
 pub mod moka_timed_uses;
-pub mod moka_timed_uses_tests;
 pub mod moka_segment_uses;
+pub mod moka_uses_tests;

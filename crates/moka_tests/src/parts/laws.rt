@@ -1,8 +1,8 @@
 //! Each law, at concrete types.
+use moka_laws::laws::*;
 use moka_parts::closures::{NoPredicate, NoWeigher};
 use moka_parts::housekeeper::FixedClock;
 use moka_parts::invalidator::{IdSource, PredicateId};
-use moka_parts::laws::*;
 use moka_parts::notification::NoListener;
 use moka_parts::policy::NoExpiry;
 use uuid::Uuid;

@@ -20,6 +20,7 @@ pub use base_cache::{
     BaseCache, RestoreError, RestoreRefused, Restored, Sight, Snapshot, SnapshotEntry,
 };
 pub use config::{CacheConfig, DefaultHasher, Engine};
+pub use crate::engine::moka_laws::laws;
 pub use crate::engine::moka_parts::calls::{Call, DriveRefused, Entry, KvEntry, Reply, Ticket};
 pub use crate::engine::moka_parts::closures::{
     ByClosure, NoPredicate, NoTest, NoWeigher, PairFn, PredicateFn, ValueTest, Weigher,
@@ -34,7 +35,6 @@ pub use crate::engine::moka_parts::housekeeper::{
 };
 pub use crate::engine::moka_parts::invalidator::{IdSource, PredicateId};
 pub use crate::engine::moka_parts::key_test::KeyTest;
-pub use crate::engine::moka_parts::laws;
 pub use crate::engine::moka_parts::notification::{Listener, NoListener, RemovalCause};
 pub use crate::engine::moka_parts::policy::{
     EvictionPolicy, ExpirationPolicy, ExpireAfter, ExpireAfterCreate, ExpireAfterRead,

@@ -124,6 +124,7 @@ fn make_pass<K: Eq + Hash, V, S: BuildHasher, L: Listener<K, V>, P>(
 where
     P: PredicateFn<K, V>,
 {
+    store.invariant_holds();
     let due = expire_due(store, notifier, terms.tests);
     let by_write = take_step(store, notifier, terms, Sweep::Written);
     let by_read = take_step(store, notifier, terms, Sweep::Read);

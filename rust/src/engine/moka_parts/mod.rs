@@ -11,7 +11,6 @@ pub mod expiry;
 pub mod housekeeper;
 pub mod invalidator;
 pub mod key_test;
-pub mod laws;
 pub mod notification;
 pub mod policy;
 pub mod record_ref;

@@ -4,7 +4,6 @@ use crate::support::prelude::*;
 
 pub mod building;
 pub mod iter;
-pub mod laws;
 pub mod predicates;
 pub mod router;
 pub mod segmented;

@@ -32,7 +32,7 @@ impl<S> Router<S> {
     }
 
     /// The part of `capacity` that is the segment's at `index`. The parts of all segments sum to it
-    /// (`laws::shares_sum`).
+    /// (`moka_segment_laws::laws::shares_sum`).
     pub fn share(&self, capacity: u64, index: u32) -> u64
     {
         let count = u64::from(self.count);

@@ -3,5 +3,3 @@
 use crate::support::prelude::*;
 
 pub mod shared;
-#[cfg(test)]
-mod tests;

@@ -5,10 +5,10 @@ use crate::support::prelude::*;
 use crate::engine::moka_engine::{
     Clock, Expiry, FixedClock, InsertRefused, Instant, Listener, OutOfMemory, PredicateFn, Weigher,
 };
-use crate::engine::moka_segments::SegmentedCache;
-use crate::engine::moka_segments::laws::{
+use crate::proved_tests::moka_segment_laws::laws::{
     calls_by_key_are_moves, calls_by_key_keep_keys, one_segment_each, own_calls_run,
 };
+use crate::engine::moka_segments::SegmentedCache;
 use crate::support::hash::{BuildHasher, Hash};
 
 /// What the segments of a cache keep together.

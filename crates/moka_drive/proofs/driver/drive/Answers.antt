@@ -4,9 +4,9 @@ use Rattle.std.proofs.lemmas.List.{nil_from_length}
 use Rattle.moka_parts.specs.State.{Meaning, meaning_of}
 use Rattle.moka_parts.specs.Runs.{PromisedRun, Step}
 use Rattle.moka_parts.specs.Listed.{ListedStep}
-use Rattle.moka_parts.proofs.OrderedDrive.{listed_call_promised, lists_go_on, drives_in_order}
+use Rattle.moka_laws.proofs.OrderedDrive.{listed_call_promised, lists_go_on, drives_in_order}
 use Rattle.moka_parts.proofs.RunsGoOn.{MakesCalls_push}
-use Rattle.moka_parts.proofs.Quiet.{no_calls}
+use Rattle.moka_laws.proofs.Quiet.{no_calls}
 use Rattle.moka_drive.proofs.driver.drive.Goals as goal
 
 pub loop-call-init : goal.loop-call-init

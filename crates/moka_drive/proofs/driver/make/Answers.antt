@@ -4,9 +4,9 @@ use Rattle.moka_parts.specs.Copies.{IsEntryCopy}
 use Rattle.moka_parts.specs.Listed.{ListedRun}
 use Rattle.moka_parts.specs.State.{Events, meaning_of}
 use Rattle.moka_parts.specs.Surroundings.{Leads}
-use Rattle.moka_parts.proofs.Copies.{answer-same, entry-same}
-use Rattle.moka_parts.proofs.Alike.{get_alike, listed_run_alike}
-use Rattle.moka_parts.proofs.Quiet.{befalls-nothing}
+use Rattle.moka_laws.proofs.Copies.{answer-same, entry-same}
+use Rattle.moka_laws.proofs.Alike.{get_alike, listed_run_alike}
+use Rattle.moka_laws.proofs.Quiet.{befalls-nothing}
 use Rattle.moka_drive.proofs.Reports.{keys_step, pending_step}
 use Rattle.moka_drive.proofs.driver.make.Goals as goal
 

@@ -1,6 +1,6 @@
 use Rattle.std.proofs.Common.{refl, []}
-use Rattle.moka_parts.proofs.Copies.{notified-same}
-use Rattle.moka_parts.proofs.Quiet.{befalls-nothing}
+use Rattle.moka_laws.proofs.Copies.{notified-same}
+use Rattle.moka_laws.proofs.Quiet.{befalls-nothing}
 use Rattle.moka_drive.proofs.driver.notify.Goals as goal
 
 pub returns-in-None : goal.returns-in-None

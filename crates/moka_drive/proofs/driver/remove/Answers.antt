@@ -1,6 +1,6 @@
 use Rattle.std.proofs.Common.{refl, sym, subst, Some}
 use Rattle.moka_parts.specs.Calls.{only_notices, RemoveStep, NotifiesAfter}
-use Rattle.moka_parts.proofs.Quiet.{befalls_then, removal_keeps}
+use Rattle.moka_laws.proofs.Quiet.{befalls_then, removal_keeps}
 use Rattle.moka_drive.proofs.driver.remove.Goals as goal
 
 pub returns : goal.returns

@@ -1,7 +1,7 @@
 use Rattle.std.proofs.Common.{◌≡◌, refl, ℕ, ◌+◌, ◌<◌, ◌≤◌, ◌&&◌, ◌⊎◌, inl, inr, true, false, None, Some, Option, IfSome, IsSome, List, option_map, nat_le, nat_lt, length, ap, sym, subst, ◌∙◌, arith}
 use Rattle.std.specs.FinMap.{FinMap, get}
 use Rattle.std.specs.Ordering.{nat_cmp}
-use Rattle.moka_sketch.specs.Frequency.{frequency}
+use Rattle.moka_parts.specs.Frequency.{frequency}
 use Rattle.moka_parts.specs.declared.records.Member.{Member}
 use Rattle.moka_parts.specs.Candidates.{hash_of}
 use Rattle.moka_parts.specs.Records.{counted_of, is_settled, member, to_back}

@@ -24,6 +24,7 @@ returns-clause-pass g c =
     (subst (λ (b : Bool). IsPass g.L.Listener.tells g.P.PredicateFn.says c.args.terms.tests c.args.terms.batch b (AreOnTime c.args.store.now) ps qs before after c.args.notifier.now last.new.notifier (due.result + first.result.removed + second.result.removed + last.result.removed) (first.result.has_more || second.result.has_more || last.result.has_more) scan.result) ordered
     (pass-five g.L.Listener.tells g.P.PredicateFn.says ps qs c.args.terms.tests c.args.terms.batch before (stock_in due.new.store) (stock_in first.new.store) second.new.store scan.new.store after
     c.args.notifier.now due.new.notifier first.new.notifier second.new.notifier scan.new.notifier last.new.notifier due.result first.result.removed second.result.removed last.result.removed first.result.has_more second.result.has_more last.result.has_more scan.result (AreOnTime c.args.store.now)
+    (λ none. c.invariant_holds.ensures.unlisted (sym ordered ∙ none))
     due.ensures.expired (λ on_time. lasts-on_time c.args.terms.tests.now.0 due.new.store (upkept-on_time c.args.store.now due.new.store due.ensures.kept.upkeep.timers due.ensures.expired.by.steps due.ensures.expired.by.led on_time) due.ensures.kept.none) first.ensures.swept second.ensures.swept scan.ensures last.ensures.swept first.ensures.idle second.ensures.idle last.ensures.idle))
 
 pub returns-clause-kept : goal.returns-clause-kept

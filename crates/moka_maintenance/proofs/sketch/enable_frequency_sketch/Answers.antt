@@ -1,5 +1,5 @@
 use Rattle.std.proofs.Common.{false, Some, ap, sym, ◌∙◌, ◌≡◌, ℕ, Bool, true, length, Option, Result, Ok, Err, OnOk, OnErr, if◌then◌else◌}
-use Rattle.moka_sketch.specs.Frequency.{size_asked, table_length_for, Table, no_counts}
+use Rattle.moka_parts.specs.Frequency.{size_asked, table_length_for, Table, no_counts}
 use Rattle.moka_parts.specs.Maintenance.{is_sketch_due, with_sketch, length_of_new_table}
 use Rattle.moka_parts.specs.declared.policy.EvictionPolicy.{EvictionPolicy}
 use Rattle.moka_parts.specs.Records.{total_weight}

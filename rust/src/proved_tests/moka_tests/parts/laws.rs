@@ -3,10 +3,10 @@
 use crate::support::prelude::*;
 #[cfg(test)]
 use crate::support::test::prelude::*;
+use crate::engine::moka_laws::laws::*;
 use crate::engine::moka_parts::closures::{NoPredicate, NoWeigher};
 use crate::engine::moka_parts::housekeeper::FixedClock;
 use crate::engine::moka_parts::invalidator::{IdSource, PredicateId};
-use crate::engine::moka_parts::laws::*;
 use crate::engine::moka_parts::notification::NoListener;
 use crate::engine::moka_parts::policy::NoExpiry;
 use crate::support::uuid::Uuid;

@@ -5,7 +5,7 @@ use Rattle.moka_parts.specs.KeyTests.{ContainsByStep, record_by}
 use Rattle.moka_parts.specs.Visibility.{IsShown}
 use Rattle.moka_parts.specs.Listed.{ListedRun}
 use Rattle.moka_calls.specs.Synchronous.{value_found}
-use Rattle.moka_parts.proofs.Alike.{gets_alike, listed_run_alike}
+use Rattle.moka_laws.proofs.Alike.{gets_alike, listed_run_alike}
 use Rattle.moka_cache.proofs.Asking.{got, value_copied, handed_out, unchanged_when_refused}
 use Rattle.moka_cache.proofs.ByTest.{got_as_key, none_passes}
 use Rattle.moka_cache.proofs.cache.Cache.get_by.Goals as goal

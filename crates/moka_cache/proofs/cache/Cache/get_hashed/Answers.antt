@@ -3,7 +3,7 @@ use Rattle.moka_parts.specs.Listed.{ListedRun}
 use Rattle.moka_parts.specs.Records.{record_of_key}
 use Rattle.moka_calls.specs.Given.{Sees}
 use Rattle.moka_calls.specs.Synchronous.{value_found}
-use Rattle.moka_parts.proofs.Alike.{get_alike, listed_run_alike}
+use Rattle.moka_laws.proofs.Alike.{get_alike, listed_run_alike}
 use Rattle.moka_cache.proofs.Waiting.{none_of_key}
 use Rattle.moka_cache.proofs.Asking.{got, value_copied, handed_out, seen_shown, unchanged_when_refused}
 use Rattle.moka_cache.proofs.Keeping.{value_stays}

@@ -1,7 +1,7 @@
 use Rattle.std.proofs.Common.{◌∙◌, refl, ap, Some, None}
 use Rattle.std.specs.FinMap.{insert}
 use Rattle.moka_parts.specs.State.{Meaning, is_disabled}
-use Rattle.moka_parts.proofs.RunKeeps.{keeps_itself}
+use Rattle.moka_laws.proofs.RunKeeps.{keeps_itself}
 use Rattle.moka_calls.specs.Synchronous.{meaning_of}
 use Rattle.moka_cache.proofs.Waiting.{remove_hands_out}
 use Rattle.moka_cache.proofs.Asking.{took_none, took}

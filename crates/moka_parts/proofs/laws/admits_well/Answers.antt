@@ -1,5 +1,0 @@
-use Rattle.moka_parts.proofs.Admission.{admits_well}
-use Rattle.moka_parts.proofs.laws.admits_well.Goals as goal
-
-pub returns : goal.returns
-returns g c = λ c weight hash victims. admits_well c weight hash victims

@@ -1,6 +1,0 @@
-use Rattle.moka_parts.proofs.PromisedLaws.{calls_keep_order}
-use Rattle.moka_parts.specs.State.{meaning_of}
-use Rattle.moka_parts.proofs.laws.calls_keep_order.Goals as goal
-
-pub returns : goal.returns
-returns g c = calls_keep_order (meaning_of g.K.PartialEq.eq g.L.Listener.tells g.P.PredicateFn.says g.W.Weigher.weighs g.C.Clock.reads g.I.IdSource.gives g.X.Expiry.created g.X.Expiry.read g.X.Expiry.updated)

@@ -1,5 +1,0 @@
-use Rattle.moka_parts.proofs.AtEnd.{counts_nearly}
-use Rattle.moka_parts.proofs.laws.counts_nearly.Goals as goal
-
-pub returns : goal.returns
-returns g c = counts_nearly g.row.X.Denot g.row.W.Denot g.K.PartialEq.eq g.P.PredicateFn.says

@@ -1,5 +1,0 @@
-use Rattle.moka_parts.proofs.AtEnd.{ends_exact}
-use Rattle.moka_parts.proofs.laws.ends_exact.Goals as goal
-
-pub returns : goal.returns
-returns g c = ends_exact g.row.X.Denot g.row.W.Denot g.K.PartialEq.eq g.P.PredicateFn.says

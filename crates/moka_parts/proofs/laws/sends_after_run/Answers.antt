@@ -1,5 +1,0 @@
-use Rattle.moka_parts.proofs.PromisedLaws.{sends_after_run}
-use Rattle.moka_parts.proofs.laws.sends_after_run.Goals as goal
-
-pub returns : goal.returns
-returns g c = sends_after_run g.row.W.Denot g.P.PredicateFn.says g.X.Expiry.read

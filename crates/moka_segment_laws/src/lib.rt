@@ -1,0 +1,4 @@
+//! Laws of the cache in segments, which callers may cite.
+#![tactic(auto)]
+
+pub mod laws;
