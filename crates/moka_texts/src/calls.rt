@@ -1,15 +1,22 @@
-//! The calls that are made with one text, which of its texts each is handed, and what it is to answer.
+//! The calls that are made with texts, which of its texts each is handed, and what it is to answer.
 use crate::notes::Words;
-use crate::report::{Refused, looked_up};
+use crate::report::{Left, Refused};
 use moka_cache::{GetWithRefused, NotTold, Stats};
 use moka_engine::InsertRefused;
 
-/// What is asked of a cache.
+/// What is asked.
 #[derive(Clone, Copy)]
 pub enum Ask {
     Insert,
     Get,
     GetBy,
+    GetWithKey,
+    GetUnless,
+    Ignore,
+    Peek,
+    Scan,
+    Keys,
+    Contains,
     Remove,
     RemoveBy,
     Invalidate,
@@ -28,84 +35,86 @@ pub enum Ask {
     Leave,
     Put,
     TakeOut,
+    InsertMany,
+    GetMany,
+    InvalidateMany,
 }
 
-/// A call, the words of its key and its value, whether the key is there, and which text the call is to answer.
+/// What is asked, the name of the call, the word of its value, and that of the value that is there before it, if its
+/// key is there.
+pub type Row = (Ask, &'static str, &'static str, Option<&'static str>);
+
+/// A call, with the words of its key, of its value, and of the value that is there before it.
 #[derive(Clone, Copy)]
 pub struct Call {
     pub ask: Ask,
     pub name: &'static str,
     pub key: &'static str,
     pub value: &'static str,
-    pub is_there: bool,
-    pub expected: Option<&'static str>,
+    pub there: Option<&'static str>,
 }
 
 impl Call {
-    /// A call that answers the value where that is there, and nothing else.
-    pub fn new(
-        ask: Ask,
-        name: &'static str,
-        (key, value): (&'static str, &'static str),
-        is_there: bool,
-    ) -> Self {
-        Call {
-            ask,
-            name,
-            key,
-            value,
-            is_there,
-            expected: if is_there { Some(value) } else { None },
+    /// The word of the text that it is to answer.
+    pub fn expected(self) -> Option<&'static str> {
+        match self.ask {
+            Ask::Insert | Ask::Invalidate | Ask::InvalidateBy | Ask::Register => None,
+            Ask::Ignore | Ask::Decline | Ask::Fail => None,
+            Ask::AndUpsertWith | Ask::Put => Some(self.value),
+            Ask::GetWith | Ask::OptionallyGetWith | Ask::TryGetWith | Ask::OrInsert => {
+                Some(self.there.unwrap_or(self.value))
+            }
+            Ask::OrInsertWith | Ask::OrOptionallyInsertWith | Ask::OrTryInsertWith => {
+                Some(self.there.unwrap_or(self.value))
+            }
+            _ => self.there,
         }
-    }
-
-    /// A call that is to answer the text of this word.
-    pub fn answering(self, word: &'static str) -> Self {
-        let mut call = self;
-        call.expected = Some(word);
-        call
-    }
-
-    /// The insert of the call's value.
-    pub fn insert(self) -> Self {
-        Call::new(Ask::Insert, self.name, (self.key, self.value), false)
-    }
-
-    /// The removal of the call's value.
-    pub fn removal(self) -> Self {
-        Call::new(Ask::Remove, self.name, (self.key, self.value), true)
     }
 
     /// An insert that was refused.
-    pub fn not_put(self, refused: InsertRefused<String, String>, words: Words) -> Refused {
-        Refused::before_all("", words.is_back(self.key, self.value, &refused))
+    pub fn not_put(self, refused: &InsertRefused<String, String>, words: Words) -> Refused {
+        let is_back = words.is(self.key, &refused.key) && words.is(self.value, &refused.value);
+        Refused::new(Left::Call, "", is_back)
     }
 
     /// A removal that the listener was not told of.
-    pub fn not_told(self, refused: NotTold<String>, words: Words) -> Refused {
-        Refused::before_notice("", Stats::new(), words.is(self.value, &refused.value))
-    }
-
-    /// A call that looks its key up first.
-    pub fn not_got(self, refused: GetWithRefused<String, String>, words: Words) -> Refused {
-        match refused {
-            GetWithRefused::Lookup(key) => {
-                Refused::before_all(" at the look-up", words.is(self.key, &key))
-            }
-            GetWithRefused::Insert(refused) => self.not_inserted(&refused, words),
+    pub fn not_told(self, refused: &NotTold<String>, words: Words) -> Refused {
+        Refused {
+            writes: 1,
+            ..Refused::new(Left::Notice, "", words.is(self.value, &refused.value))
         }
     }
 
-    /// A call that has looked its key up, and made its value.
+    /// An insert that was refused after the call had looked its key up, and made its value.
     pub fn not_inserted(self, refused: &InsertRefused<String, String>, words: Words) -> Refused {
-        Refused::before_insert(self.counted(), words.is_back(self.key, self.value, refused))
+        let is_load = !matches!(self.ask, Ask::OrInsert | Ask::AndUpsertWith | Ask::Put);
+        Refused {
+            left: Left::Insert,
+            place: " at the insert",
+            counted: Stats {
+                hits: u64::from(self.there.is_some()),
+                misses: u64::from(self.there.is_none()),
+                loads: u64::from(is_load),
+            },
+            ..self.not_put(refused, words)
+        }
     }
 
-    /// What the call counts before its insert.
-    fn counted(self) -> Stats {
-        let is_load = !matches!(self.ask, Ask::OrInsert | Ask::AndUpsertWith | Ask::Put);
-        let mut counted = looked_up(self.is_there);
-        counted.loads = u64::from(is_load);
-        counted
+    /// A call that was refused the clone of its key or of what is there, and gave its key back.
+    pub fn not_looked_up(self, key: &String, words: Words) -> Refused {
+        Refused::new(Left::Call, " at the look-up", words.is(self.key, key))
+    }
+
+    /// What is found by a call that looks its key up first.
+    pub fn handed_out(
+        self,
+        found: Result<Option<String>, GetWithRefused<String, String>>,
+        words: Words,
+    ) -> Result<Option<String>, Refused> {
+        match found {
+            Ok(found) => Ok(found),
+            Err(GetWithRefused::Lookup(key)) => Err(self.not_looked_up(&key, words)),
+            Err(GetWithRefused::Insert(refused)) => Err(self.not_inserted(&refused, words)),
+        }
     }
 }

@@ -1,42 +1,34 @@
 //! The calls of the engine, made with one text after the other.
+use crate::calls::{Ask, Call, Row};
 use crate::notes::{Notes, Words};
-use crate::report::{Refused, Round, Texts, Told, or_refused, told_of};
+use crate::report::{Left, Refused, Texts, Told, told_of};
+use crate::rounds::{Asked, ROUNDS, are_made, finish};
 use moka_cache::Stats;
 use moka_engine::{
-    Entry, IdSource, KvEntry, NoPredicate, NoTest, OutOfMemory, PredicateError, PredicateId, Ticket,
+    FixedClock, IdSource, NoPredicate, NoTest, OutOfMemory, PredicateError, PredicateId, ValueTest,
 };
+use std::io;
+use std::io::Write;
 
 /// The hash that the engine is handed with each key: it finds keys by hashes of its own.
 const HASH: u64 = 7;
 
-/// A call that puts a text in, answers with a clone, or registers a predicate.
-#[derive(Clone, Copy)]
-enum Ask {
-    InsertFirst,
-    Insert,
-    Get,
-    GetWithKey,
-    GetUnless,
-    Ignore,
-    Peek,
-    Scan,
-    Keys,
-    Register,
-}
-
-/// All these calls, with their names.
-const ASKS: [(Ask, &str); 10] = [
-    (Ask::InsertFirst, "insert"),
-    (Ask::Insert, "insert"),
-    (Ask::Get, "get"),
-    (Ask::GetWithKey, "get with key"),
-    (Ask::GetUnless, "get unless ignored"),
-    (Ask::Ignore, "get that ignores"),
-    (Ask::Peek, "peek"),
-    (Ask::Scan, "scan"),
-    (Ask::Keys, "keys"),
-    (Ask::Register, "register"),
+/// A text is put in twice and asked for, and a predicate is registered.
+const CALLS: [Row; 10] = [
+    (Ask::Insert, "insert", "first", None),
+    (Ask::Insert, "insert", "value", Some("first")),
+    (Ask::Get, "get", "value", Some("value")),
+    (Ask::GetWithKey, "get with key", "value", Some("value")),
+    (Ask::GetUnless, "get unless ignored", "value", Some("value")),
+    (Ask::Ignore, "get that ignores", "value", Some("value")),
+    (Ask::Peek, "peek", "value", Some("value")),
+    (Ask::Scan, "scan", "value", Some("value")),
+    (Ask::Keys, "keys", "value", Some("value")),
+    (Ask::Register, "register", "value", Some("value")),
 ];
+
+/// It is taken out again.
+const REMOVAL: [Row; 1] = [(Ask::Remove, "notify", "value", Some("value"))];
 
 /// Counts its identifiers up.
 #[derive(Clone, Copy)]
@@ -51,84 +43,58 @@ impl IdSource for Ids {
     }
 }
 
-/// What the engine tells: it counts no look-ups.
-fn told_by(cache: &Texts) -> Told {
-    told_of(cache, Stats::new())
+/// Whether a look-up ignores what it finds.
+#[derive(Clone, Copy)]
+struct Ignores(bool);
+
+impl ValueTest<String> for Ignores {
+    ghost can_ask = { λ _ _. Unit {0} };
+
+    ghost asks = { λ _ _ _ _. Unit {0} };
+
+    fn ignores(&mut self, _: &String) -> bool {
+        self.0
+    }
 }
 
-/// Whether a text whose value begins with a word is put in, and its operation sent.
-fn is_put(cache: &mut Texts, word: &str, words: Words) -> Result<bool, Refused> {
+/// Whether a text is put in, and its operation sent.
+fn put(cache: &mut Texts, call: Call, words: Words) -> Result<bool, Refused> {
     if cache.is_map_disabled() {
         return Ok(false);
     }
-    let (key, value) = (words.text("key"), words.text(word));
+    let (key, value) = (words.text(call.key), words.text(call.value));
     match cache.do_insert_with_hash(key, HASH, value, words.now) {
         Ok((ticket, _)) => Ok(cache.send(ticket).is_ok()),
-        Err(refused) => { Err(Refused::before_all("", words.is_back("key", word, &refused))) }
+        Err(refused) => Err(call.not_put(&refused, words)),
     }
 }
 
-/// What is found of a key, unless the test of the call ignores it.
-fn get(
-    cache: &mut Texts,
-    ask: Ask,
-    key: &String,
-    words: Words,
-) -> Result<Option<Entry<String, String>>, OutOfMemory> {
-    let (now, clock) = (words.now, &mut words.clock());
-    match ask {
-        Ask::Get => cache.get_with_hash(key, HASH, false, now, clock),
-        Ask::GetWithKey => cache.get_with_hash(key, HASH, true, now, clock),
-        _ => {
-            let is_ignored = matches!(ask, Ask::Ignore);
-            let mut test = |_: &String| is_ignored;
-            cache.get_with_hash_and_ignore_if(key, HASH, Some(&mut test), true, now, clock)
-        }
-    }
-}
-
-/// The value that was found, if its key came with it where that was asked for, and only there.
-fn value_of(found: Option<Entry<String, String>>, need_key: bool, words: Words) -> Option<String> {
-    let entry = found?;
-    let is_right = match &entry.key {
-        Some(key) => need_key && words.is("key", key),
-        None => !need_key,
-    };
-    if is_right { Some(entry.value) } else { None }
-}
-
-/// The value of a key.
-fn find(cache: &mut Texts, ask: Ask, words: Words) -> Result<Option<String>, OutOfMemory> {
-    let key = &words.text("key");
-    match ask {
+/// The value of a key, unless the test of the call ignores it. The key comes with it where that is asked for, and only
+/// there.
+fn find(cache: &mut Texts, call: Call, words: Words) -> Result<Option<String>, OutOfMemory> {
+    let key = &words.text(call.key);
+    let (now, clock) = (words.now, &mut FixedClock(words.now));
+    let need_key = !matches!(call.ask, Ask::Get);
+    let found = match call.ask {
         Ask::Peek => {
-            cache.get_with_hash_without_recording(key, HASH, Some(&mut NoTest), words.now)
+            return cache.get_with_hash_without_recording(key, HASH, Some(&mut NoTest), now);
         }
-        Ask::Scan => cache.scanning_get(key, words.now),
-        _ => match get(cache, ask, key, words) {
-            Ok(found) => Ok(value_of(found, !matches!(ask, Ask::Get), words)),
-            Err(error) => Err(error),
-        },
-    }
-}
-
-/// Whether the value of a key is found, unless it is ignored.
-fn is_found(cache: &mut Texts, ask: Ask, words: Words) -> Result<bool, OutOfMemory> {
-    let expected = match ask {
-        Ask::Ignore => None,
-        _ => Some("value"),
+        Ask::Scan => return cache.scanning_get(key, now),
+        Ask::Get | Ask::GetWithKey => cache.get_with_hash(key, HASH, need_key, now, clock),
+        _ => {
+            let mut test = Ignores(matches!(call.ask, Ask::Ignore));
+            cache.get_with_hash_and_ignore_if(key, HASH, Some(&mut test), need_key, now, clock)
+        }
     };
-    match find(cache, ask, words) {
-        Ok(found) => Ok(words.is_found(expected, found)),
-        Err(error) => Err(error),
-    }
-}
-
-/// Whether there are keys, all of which are cloned.
-fn has_keys(cache: &Texts) -> Result<bool, OutOfMemory> {
-    match cache.keys(0) {
-        Ok(Some(keys)) => Ok(keys.len() > 0),
-        Ok(None) => Ok(false),
+    match found {
+        Ok(Some(entry)) => {
+            let is_right = match &entry.key {
+                Some(key) => need_key && words.is(call.key, key),
+                None => !need_key,
+            };
+            Ok(if is_right { Some(entry.value) } else { None })
+        }
+        Ok(None) => Ok(None),
         Err(error) => Err(error),
     }
 }
@@ -145,83 +111,64 @@ fn is_registered(cache: &mut Texts, words: Words) -> Result<bool, OutOfMemory> {
     }
 }
 
-/// Whether a call answers as it should.
-fn is_answered(cache: &mut Texts, ask: Ask, words: Words) -> Result<bool, Refused> {
-    match ask {
-        Ask::InsertFirst => is_put(cache, "first", words),
-        Ask::Insert => is_put(cache, "value", words),
-        Ask::Keys => or_refused(has_keys(cache)),
-        Ask::Register => or_refused(is_registered(cache, words)),
-        _ => or_refused(is_found(cache, ask, words)),
+/// Whether a key is taken out, the operation sent, and the listener told of it, the second time if not the first.
+fn is_taken_out(cache: &mut Texts, call: Call, words: Words) -> Result<bool, Refused> {
+    let Some((entry, ticket)) = cache.remove_entry(&words.text(call.key), HASH) else {
+        return Ok(false);
+    };
+    let is_sent = cache.send(ticket).is_ok();
+    if cache.notify_invalidate(&entry, words.now).is_ok() {
+        return Ok(is_sent);
     }
+    let is_told = cache.notify_invalidate(&entry, words.now).is_ok();
+    Err(Refused {
+        writes: 1,
+        notices: 1,
+        bytes: entry.key.len().wrapping_add(entry.value.len()),
+        ..Refused::new(Left::Nothing, "", is_sent && is_told)
+    })
 }
 
-/// Whether a call answers as it should. One that is refused is made again.
-fn is_asked(
-    notes: &mut Notes,
-    cache: &mut Texts,
-    (ask, name): (Ask, &'static str),
-    words: Words,
-) -> bool {
-    let before = told_by(cache);
-    match is_answered(cache, ask, words) {
-        Ok(is_right) => is_right,
-        Err(refused) => {
-            notes.refused(name, refused, &before, &told_by(cache));
-            refused.is_back && matches!(is_answered(cache, ask, words), Ok(true))
+impl Asked for Texts {
+    fn is_answered(&mut self, call: Call, words: Words) -> Result<bool, Refused> {
+        let answered = match call.ask {
+            Ask::Insert => return put(self, call, words),
+            Ask::Remove => return is_taken_out(self, call, words),
+            Ask::Register => is_registered(self, words),
+            Ask::Keys => match self.keys(0) {
+                Ok(Some(keys)) => Ok(keys.len() > 0),
+                Ok(None) => Ok(false),
+                Err(error) => Err(error),
+            },
+            _ => match find(self, call, words) {
+                Ok(found) => Ok(words.is_found(call.expected(), found)),
+                Err(error) => Err(error),
+            },
+        };
+        match answered {
+            Ok(is_right) => Ok(is_right),
+            Err(_) => Err(Refused::new(Left::Call, "", true)),
         }
     }
-}
 
-/// Whether the listener is told of what was removed, the second time if not the first.
-fn is_told(
-    notes: &mut Notes,
-    cache: &mut Texts,
-    entry: &KvEntry<String, String>,
-    words: Words,
-) -> bool {
-    let before = told_by(cache);
-    if cache.notify_invalidate(entry, words.now).is_ok() {
-        return true;
+    /// It counts no look-ups.
+    fn told(&self, _: &str, _: Words) -> Told {
+        told_of(self, Stats::new())
     }
-    notes.refused("notify", Refused::new(), &before, &told_by(cache));
-    cache.notify_invalidate(entry, words.now).is_ok()
-}
 
-/// Takes the round's text out, whose operation is still to be sent.
-fn take_out(cache: &mut Texts, words: Words) -> Option<(KvEntry<String, String>, Ticket)> {
-    cache.remove_entry(&words.text("key"), HASH)
-}
-
-/// Whether a key is taken out, the listener told of it, and the operation sent.
-fn is_taken_out(notes: &mut Notes, cache: &mut Texts, words: Words) -> bool {
-    match take_out(cache, words) {
-        Some((entry, ticket)) => {
-            is_told(notes, cache, &entry, words) && cache.send(ticket).is_ok()
-        }
-        None => false,
+    fn run(&mut self, words: Words) -> bool {
+        self.run_pending_tasks(words.now, &mut FixedClock(words.now), None, 4, 384)
     }
 }
 
-/// Whether all calls answer as they should.
-fn are_asked(notes: &mut Notes, cache: &mut Texts, words: Words) -> bool {
-    let mut is_right = true;
-    for ask in ASKS {
-        is_right = is_asked(notes, cache, ask, words) && is_right;
+/// Puts a text in, replaces it, asks for it, and takes each third one out again; a run is made after those of each.
+pub fn make_rounds<W: Write>(out: &mut W, notes: &mut Notes, cache: &mut Texts) -> io::Result<()> {
+    for number in 0..ROUNDS {
+        let words = Words::new(notes.alloc, number);
+        let are_asked = are_made(notes, cache, "key", &CALLS, words);
+        let is_kept = number % 3 != 2;
+        let is_right = (is_kept || are_made(notes, cache, "key", &REMOVAL, words)) && are_asked;
+        finish(out, cache, words, is_right, None)?;
     }
-    is_right
-}
-
-/// Puts a text in, replaces it, asks for it, and takes each third one out again; then a run is made.
-pub fn round(notes: &mut Notes, cache: &mut Texts, words: Words) -> Round {
-    let are_asked = are_asked(notes, cache, words);
-    let is_kept = words.number % 3 != 2;
-    let is_right = (is_kept || is_taken_out(notes, cache, words)) && are_asked;
-    let is_more = cache.run_pending_tasks(words.now, &mut words.clock(), None, 4, 384);
-    Round {
-        is_right,
-        listed: None,
-        is_more,
-        told: told_by(cache),
-    }
+    Ok(())
 }

@@ -1,111 +1,122 @@
 //! The calls of a cache in segments, made with one text after the other.
-use crate::calls::{Ask, Call};
+use crate::calls::{Ask, Call, Row};
 use crate::engine::Ids;
-use crate::notes::{Notes, Words};
-use crate::report::{Left, Refused, Report, Round, Told, told_of};
-use moka_engine::{NoExpiry, NoPredicate, PredicateId};
-use moka_segments::{RegisterRefused, SegmentedCache};
+use crate::notes::{Notes, TRIES, Words};
+use crate::report::{Left, Refused, Report, Told, told_of};
+use crate::rounds::{Asked, ROUNDS, are_made, finish};
+use moka_engine::{FixedClock, NoExpiry, NoPredicate};
+use moka_segments::SegmentedCache;
+use std::io;
+use std::io::Write;
 
 /// A cache of texts by texts, in segments.
 pub type Segmented = SegmentedCache<String, String, NoExpiry, Report, NoPredicate>;
 
-/// What the segment of a key tells of itself, and what all segments counted.
-fn told_by(cache: &Segmented, key: &String) -> Told {
-    let segment = cache.segment(cache.segment_of(key));
-    told_of(segment.engine(), cache.stats())
-}
+/// A text is put in twice and asked for.
+const CALLS: [Row; 3] = [
+    (Ask::Insert, "SegmentedCache::insert", "first", None),
+    (
+        Ask::Insert,
+        "SegmentedCache::insert",
+        "value",
+        Some("first"),
+    ),
+    (Ask::Get, "SegmentedCache::get", "value", Some("value")),
+];
 
-/// Puts the call's value under its key.
-fn insert(cache: &mut Segmented, call: Call, words: Words) -> Result<Option<String>, Refused> {
-    let (key, value) = (words.text(call.key), words.text(call.value));
-    match cache.insert(key, value, words.now, &mut words.clock()) {
-        Ok(()) => Ok(None),
-        Err(refused) => Err(call.not_put(refused, words)),
-    }
-}
+/// A text is made that is not there, and then found.
+const MADE: [Row; 2] = [
+    (Ask::GetWith, "SegmentedCache::get_with", "made", None),
+    (
+        Ask::GetWith,
+        "SegmentedCache::get_with",
+        "other",
+        Some("made"),
+    ),
+];
 
-/// The value of a key, made if the key is not there.
-fn get_made(cache: &mut Segmented, call: Call, words: Words) -> Result<Option<String>, Refused> {
-    let (key, made) = (words.text(call.key), words.text(call.value));
-    match cache.get_with(key, || made, words.now, &mut words.clock()) {
-        Ok(value) => Ok(Some(value)),
-        Err(refused) => Err(call.not_got(refused, words)),
-    }
-}
+/// A predicate is registered in each segment.
+const REGISTER: [Row; 1] = [(
+    Ask::Register,
+    "SegmentedCache::invalidate_entries_if",
+    "",
+    None,
+)];
 
-fn make(cache: &mut Segmented, call: Call, words: Words) -> Result<Option<String>, Refused> {
-    let (now, clock) = (words.now, &mut words.clock());
-    match call.ask {
-        Ask::Insert => insert(cache, call, words),
-        Ask::GetWith => get_made(cache, call, words),
-        Ask::Get => match cache.get(&words.text(call.key), now, clock) {
-            Ok(found) => Ok(found),
-            Err(_) => Err(Refused::new()),
-        },
-        _ => match cache.remove(&words.text(call.key), now, clock) {
-            Ok(taken) => Ok(taken),
-            Err(refused) => Err(call.not_told(refused, words)),
-        },
-    }
-}
-
-/// Whether the call answers as it should.
-fn is_answered(cache: &mut Segmented, call: Call, words: Words) -> Result<bool, Refused> {
-    match make(cache, call, words) {
-        Ok(answer) => Ok(words.is_found(call.expected, answer)),
-        Err(refused) => Err(refused),
-    }
-}
-
-/// Whether the call answers as it should, and is not refused.
-fn is_right(cache: &mut Segmented, call: Call, words: Words) -> bool {
-    matches!(is_answered(cache, call, words), Ok(true))
-}
-
-/// Whether what a refused call has left is done.
-fn is_done(cache: &mut Segmented, call: Call, left: Left, words: Words) -> bool {
-    let is_put = matches!(left, Left::Call) || is_right(cache, call.insert(), words);
-    is_put && (matches!(left, Left::Insert) || is_right(cache, call, words))
-}
-
-/// Whether a call answers as it should. What one that is refused has left to do is done.
-fn is_made(notes: &mut Notes, cache: &mut Segmented, call: Call, words: Words) -> bool {
-    let key = words.text(call.key);
-    let before = told_by(cache, &key);
-    match is_answered(cache, call, words) {
-        Ok(is_right) => is_right,
-        Err(refused) => {
-            notes.refused(call.name, refused, &before, &told_by(cache, &key));
-            refused.is_back && is_done(cache, call, refused.left, words)
-        }
-    }
-}
+/// A text is taken out.
+const REMOVAL: [Row; 1] = [(
+    Ask::Remove,
+    "SegmentedCache::remove",
+    "value",
+    Some("value"),
+)];
 
 fn no_predicate() -> NoPredicate {
     NoPredicate
 }
 
-/// Registers a predicate that covers nothing in each segment.
-fn register(
-    cache: &mut Segmented,
-    ids: &mut Ids,
-    words: Words,
-) -> Result<Vec<PredicateId>, RegisterRefused<NoPredicate>> {
-    cache.invalidate_entries_if(no_predicate, words.now, ids)
+/// Registers a predicate that covers nothing in each segment. If one refuses, those before it have used an identifier
+/// each.
+fn register(cache: &mut Segmented, call: Call, words: Words) -> Result<Option<String>, Refused> {
+    let segment = cache.segment_of(&words.text(call.key)) as usize;
+    let registered = cache.segment(0).engine().invalidation_predicate_count();
+    let first = words
+        .number
+        .wrapping_mul(100)
+        .wrapping_add(registered.wrapping_mul(10));
+    let mut ids = Ids(u128::from(first));
+    match cache.invalidate_entries_if(no_predicate, words.now, &mut ids) {
+        Ok(_) => Ok(None),
+        Err(refused) => {
+            let done = refused.done.len();
+            let is_right = ids.0 == u128::from(first).wrapping_add(done as u128);
+            Err(Refused {
+                predicates: u64::from(segment < done),
+                ..Refused::new(Left::Call, "", is_right)
+            })
+        }
+    }
 }
 
-/// Whether a predicate that covers nothing is registered in each segment. If one refuses, those before it have used an
-/// identifier each.
-fn is_registered(notes: &mut Notes, cache: &mut Segmented, words: Words) -> bool {
-    let first = u128::from(words.number).wrapping_mul(100);
-    let mut ids = Ids(first);
-    match register(cache, &mut ids, words) {
-        Ok(_) => true,
-        Err(refused) => {
-            notes.say("SegmentedCache::invalidate_entries_if", "");
-            let is_right = ids.0 == first.wrapping_add(refused.done.len() as u128);
-            register(cache, &mut ids, words).is_ok() && is_right
+impl Asked for Segmented {
+    fn is_answered(&mut self, call: Call, words: Words) -> Result<bool, Refused> {
+        let key = words.text(call.key);
+        let (now, clock) = (words.now, &mut FixedClock(words.now));
+        let answer = match call.ask {
+            Ask::Insert => match self.insert(key, words.text(call.value), now, clock) {
+                Ok(()) => Ok(None),
+                Err(refused) => Err(call.not_put(&refused, words)),
+            },
+            Ask::Remove => match self.remove(&key, now, clock) {
+                Ok(removed) => Ok(removed),
+                Err(refused) => Err(call.not_told(&refused, words)),
+            },
+            Ask::GetWith => {
+                let made = words.text(call.value);
+                call.handed_out(self.get_with(key, || made, now, clock).map(Some), words)
+            }
+            Ask::Register => register(self, call, words),
+            _ => match self.get(&key, now, clock) {
+                Ok(found) => Ok(found),
+                Err(_) => Err(Refused::new(Left::Call, "", true)),
+            },
+        };
+        match answer {
+            Ok(answer) => Ok(words.is_found(call.expected(), answer)),
+            Err(refused) => Err(refused),
         }
+    }
+
+    /// What the segment of this key tells, beside what all segments counted, and how many entries all have.
+    fn told(&self, key: &str, words: Words) -> Told {
+        let segment = self.segment(self.segment_of(&words.text(key)));
+        let mut told = told_of(segment.engine(), self.stats());
+        told.entries = self.entry_count();
+        told
+    }
+
+    fn run(&mut self, words: Words) -> bool {
+        self.run_pending_tasks(words.now, &mut FixedClock(words.now))
     }
 }
 
@@ -120,73 +131,32 @@ fn bytes_of_keys(cache: &Segmented, words: Words) -> Option<usize> {
 
 /// How many bytes the keys have that are listed.
 fn listed(notes: &mut Notes, cache: &Segmented, words: Words) -> Option<usize> {
-    let first = bytes_of_keys(cache, words);
-    if first.is_some() {
-        return first;
+    for _ in 0..TRIES {
+        if let Some(bytes) = bytes_of_keys(cache, words) {
+            return Some(bytes);
+        }
+        notes.say("SegmentedCache::iter", "");
     }
-    notes.say("SegmentedCache::iter", "");
-    bytes_of_keys(cache, words)
+    None
 }
 
-/// A text is put in twice and asked for.
-const CALLS: [(Ask, &str, &str, bool); 3] = [
-    (Ask::Insert, "SegmentedCache::insert", "first", false),
-    (Ask::Insert, "SegmentedCache::insert", "value", false),
-    (Ask::Get, "SegmentedCache::get", "value", true),
-];
-
-/// Whether the value of a key of its own is handed out, which is made if it is not there, and then found.
-fn is_found(notes: &mut Notes, cache: &mut Segmented, words: Words) -> bool {
-    let name = "SegmentedCache::get_with";
-    let texts = ("made by", "made");
-    let make = Call::new(Ask::GetWith, name, texts, false).answering("made");
-    let is_first_made = is_made(notes, cache, make, words);
-    let find = Call::new(Ask::GetWith, name, texts, true);
-    is_made(notes, cache, find, words) && is_first_made
-}
-
-/// Whether a text is put in and found.
-fn is_put_and_got(notes: &mut Notes, cache: &mut Segmented, words: Words) -> bool {
-    let mut is_right = true;
-    for (ask, name, value, is_there) in CALLS {
-        let call = Call::new(ask, name, ("key", value), is_there);
-        is_right = is_made(notes, cache, call, words) && is_right;
+/// Makes each call with the texts of each number, of which each third one is taken out; a run is made after those of
+/// each.
+pub fn make_rounds<W: Write>(
+    out: &mut W,
+    notes: &mut Notes,
+    cache: &mut Segmented,
+) -> io::Result<()> {
+    for number in 0..ROUNDS {
+        let words = Words::new(notes.alloc, number);
+        let is_got = are_made(notes, cache, "key", &CALLS, words);
+        let is_found = are_made(notes, cache, "made by", &MADE, words);
+        let is_registered = are_made(notes, cache, "key", &REGISTER, words);
+        let listed = listed(notes, cache, words);
+        let is_kept = number % 3 != 2;
+        let is_taken_out = is_kept || are_made(notes, cache, "key", &REMOVAL, words);
+        let is_right = is_got && is_found && is_registered && is_taken_out;
+        finish(out, cache, words, is_right, listed)?;
     }
-    is_right
-}
-
-/// Whether the text is taken out.
-fn is_taken_out(notes: &mut Notes, cache: &mut Segmented, words: Words) -> bool {
-    let removal = Call::new(
-        Ask::Remove,
-        "SegmentedCache::remove",
-        ("key", "value"),
-        true,
-    );
-    is_made(notes, cache, removal, words)
-}
-
-/// Makes a run, and says what the segment of the round's key tells then. The entries are those of all segments.
-fn run(cache: &mut Segmented, words: Words, is_right: bool, listed: Option<usize>) -> Round {
-    let is_more = cache.run_pending_tasks(words.now, &mut words.clock());
-    let mut told = told_by(cache, &words.text("key"));
-    told.entries = cache.entry_count();
-    Round {
-        is_right,
-        listed,
-        is_more,
-        told,
-    }
-}
-
-/// Makes each call with texts of this number, of which each third one is taken out; then a run is made.
-pub fn round(notes: &mut Notes, cache: &mut Segmented, words: Words) -> Round {
-    let is_got = is_put_and_got(notes, cache, words);
-    let is_found = is_found(notes, cache, words);
-    let is_registered = is_registered(notes, cache, words);
-    let listed = listed(notes, cache, words);
-    let is_kept = words.number % 3 != 2;
-    let is_taken_out = is_kept || is_taken_out(notes, cache, words);
-    let is_right = is_got && is_found && is_registered && is_taken_out;
-    run(cache, words, is_right, listed)
+    Ok(())
 }

@@ -1,61 +1,56 @@
 //! Calls with several texts at once. What a refusal left is done one by one.
-use crate::calls::{Ask, Call};
-use crate::notes::{Notes, Words};
-use crate::report::{Left, Refused, Round};
-use crate::synchronous::{Cached, is_right, run, told_by};
+use crate::calls::{Ask, Call, Row};
+use crate::notes::{Notes, TRIES, Words};
+use crate::report::{Left, Refused};
+use crate::rounds::{Asked, ROUNDS, are_made, finish, is_right};
+use crate::synchronous::Cached;
 use moka_cache::{InsertManyRefused, InvalidateManyRefused, Stats};
+use moka_engine::FixedClock;
+use std::io;
+use std::io::Write;
 
 /// How many texts each call is made with.
 const COUNT: u64 = 3;
 
-/// The words of their keys and values.
-const TEXTS: (&str, &str) = ("many", "value");
+/// Texts are put in and found.
+const CALLS: [Row; 2] = [
+    (Ask::InsertMany, "Cache::insert_many", "value", None),
+    (Ask::GetMany, "Cache::get_many", "value", Some("value")),
+];
+
+/// Others are not.
+const MISSES: [Row; 1] = [(Ask::GetMany, "Cache::get_many", "value", None)];
+
+/// They are taken out.
+const REMOVAL: [Row; 1] = [(
+    Ask::InvalidateMany,
+    "Cache::invalidate_many",
+    "value",
+    Some("value"),
+)];
 
 /// The words of one of the texts.
 fn item(words: Words, index: u64) -> Words {
-    words.numbered(words.number.wrapping_mul(COUNT).wrapping_add(index))
-}
-
-/// Texts that begin with a word.
-fn texts(words: Words, word: &str) -> [String; 3] {
-    [
-        item(words, 0).text(word),
-        item(words, 1).text(word),
-        item(words, 2).text(word),
-    ]
+    Words {
+        number: words.number.wrapping_mul(COUNT).wrapping_add(index),
+        ..words
+    }
 }
 
 /// Keys and values. If memory for the list is refused, it is asked for again with the first of them.
-fn items(words: Words) -> Vec<(String, String)> {
+fn items(call: Call, words: Words) -> Vec<(String, String)> {
     let mut items = match Vec::with_capacity(words.alloc, COUNT as usize) {
         Ok(items) => items,
         Err(_) => Vec::new(words.alloc),
     };
     for index in 0..COUNT {
         let item = item(words, index);
-        if items.push((item.text("many"), item.text("value"))).is_err() {
+        let pushed = items.push((item.text(call.key), item.text(call.value)));
+        if pushed.is_err() {
             return items;
         }
     }
     items
-}
-
-/// An insert that was refused at one of its texts, which came back with those behind it.
-fn not_put(refused: InsertManyRefused<String, String>, words: Words) -> (Refused, u64) {
-    let (done, item) = (refused.done, item(words, refused.done as u64));
-    let is_whole = refused.rest.len().wrapping_add(done).wrapping_add(1) == COUNT as usize;
-    let is_back = item.is_back("many", "value", &refused.refused) && is_whole;
-    let mut refused = Refused::before_all("", is_back);
-    refused.writes = done;
-    (refused, done as u64)
-}
-
-/// Puts the texts of this number in.
-fn put(cache: &mut Cached, words: Words) -> Result<bool, (Refused, u64)> {
-    match cache.insert_many(items(words), words.now, &mut words.clock()) {
-        Ok(()) => Ok(true),
-        Err(refused) => Err(not_put(refused, words)),
-    }
 }
 
 /// How many of these are there.
@@ -69,117 +64,127 @@ fn hits(found: &[Option<String>]) -> u64 {
     hits
 }
 
-/// A look-up that was refused at one of its keys, after those of which this was found.
-fn not_got(call: Call, found: &[Option<String>]) -> (Refused, u64) {
-    let (hits, done) = (hits(found), found.len() as u64);
-    let expected = if call.is_there { done } else { 0 };
-    let mut refused = Refused::before_all("", hits == expected);
-    refused.counted.hits = hits;
-    refused.counted.misses = done.wrapping_sub(hits);
-    (refused, done)
-}
-
-/// Looks each key up: all are there, or none.
-fn get(cache: &mut Cached, call: Call, words: Words) -> Result<bool, (Refused, u64)> {
-    let keys = texts(words, call.key);
-    match cache.get_many(words.alloc, &keys, words.now, &mut words.clock()) {
-        Ok(found) => Ok(hits(&found) == if call.is_there { COUNT } else { 0 }),
-        Err(refused) => Err(not_got(call, &refused.found)),
+impl Call {
+    /// An insert that was refused at one of its texts, which came back with those behind it.
+    fn not_all_put(self, refused: InsertManyRefused<String, String>, words: Words) -> Refused {
+        let done = refused.done;
+        let not_put = self.not_put(&refused.refused, item(words, done as u64));
+        let is_whole = refused.rest.len().wrapping_add(done).wrapping_add(1) == COUNT as usize;
+        Refused {
+            left: Left::Texts(done as u64),
+            writes: done,
+            is_back: not_put.is_back && is_whole,
+            ..not_put
+        }
     }
-}
 
-/// A removal that the listener was not told of, after those that it was told of.
-fn not_told(refused: InvalidateManyRefused<String>, words: Words) -> (Refused, u64) {
-    let done = refused.done as u64;
-    let is_back = item(words, done).is("value", &refused.refused.value);
-    let mut refused = Refused::before_notice("", Stats::new(), is_back);
-    refused.writes = refused.writes.wrapping_add(done as usize);
-    refused.notices = done;
-    for index in 0..done {
-        let item = item(words, index);
-        let bytes = item.len("many").wrapping_add(item.len("value"));
-        refused.bytes = refused.bytes.wrapping_add(bytes);
+    /// A look-up that was refused at one of its keys, after those of which this was found.
+    fn not_all_got(self, found: &[Option<String>]) -> Refused {
+        let (hits, done) = (hits(found), found.len() as u64);
+        let expected = if self.there.is_some() { done } else { 0 };
+        Refused {
+            counted: Stats {
+                hits,
+                misses: done.wrapping_sub(hits),
+                loads: 0,
+            },
+            ..Refused::new(Left::Texts(done), "", hits == expected)
+        }
     }
-    (refused, done)
-}
 
-/// Takes the texts of this number out.
-fn take_out(cache: &mut Cached, words: Words) -> Result<bool, (Refused, u64)> {
-    let keys = texts(words, "many");
-    match cache.invalidate_many(&keys, words.now, &mut words.clock()) {
-        Ok(()) => Ok(true),
-        Err(refused) => Err(not_told(refused, words)),
-    }
-}
-
-/// Makes a call with several texts. If it is refused at one, answers with how many there are before that.
-fn make(cache: &mut Cached, call: Call, words: Words) -> Result<bool, (Refused, u64)> {
-    match call.ask {
-        Ask::Insert => put(cache, words),
-        Ask::Get => get(cache, call, words),
-        _ => take_out(cache, words),
-    }
-}
-
-/// Whether the call is made with each of the texts from this one on.
-fn are_done(cache: &mut Cached, call: Call, done: u64, words: Words) -> bool {
-    let mut are_right = true;
-    for index in done..COUNT {
-        are_right = is_right(cache, call, item(words, index)) && are_right;
-    }
-    are_right
-}
-
-/// Whether the call answers as it should. If it is refused at a text, it is made with that and those behind it, one by
-/// one. A text that was taken out without notice is put in again before.
-fn are_made(notes: &mut Notes, cache: &mut Cached, call: Call, words: Words) -> bool {
-    let before = told_by(cache);
-    match make(cache, call, words) {
-        Ok(is_right) => is_right,
-        Err((refused, done)) => {
-            notes.refused(call.name, refused, &before, &told_by(cache));
-            let is_there = !matches!(refused.left, Left::Notice)
-                || is_right(cache, call.insert(), item(words, done));
-            refused.is_back && is_there && are_done(cache, call, done, words)
+    /// A removal that the listener was not told of, after those that it was told of.
+    fn not_all_told(self, refused: InvalidateManyRefused<String>, words: Words) -> Refused {
+        let done = refused.done as u64;
+        let not_told = self.not_told(&refused.refused, item(words, done));
+        let mut bytes = 0_usize;
+        for index in 0..done {
+            let item = item(words, index);
+            let (key, value) = (item.text(self.key), item.text(self.value));
+            bytes = bytes.wrapping_add(key.len()).wrapping_add(value.len());
+        }
+        Refused {
+            left: Left::Texts(done),
+            writes: refused.done.wrapping_add(1),
+            notices: done,
+            bytes,
+            ..not_told
         }
     }
 }
 
+/// Whether the call answers as it should: of the keys all are there, or none.
+pub fn is_answered(cache: &mut Cached, call: Call, words: Words) -> Result<bool, Refused> {
+    let (now, clock) = (words.now, &mut FixedClock(words.now));
+    if matches!(call.ask, Ask::InsertMany) {
+        return match cache.insert_many(items(call, words), now, clock) {
+            Ok(()) => Ok(true),
+            Err(refused) => Err(call.not_all_put(refused, words)),
+        };
+    }
+    let keys = [
+        item(words, 0).text(call.key),
+        item(words, 1).text(call.key),
+        item(words, 2).text(call.key),
+    ];
+    match call.ask {
+        Ask::GetMany => match cache.get_many(words.alloc, &keys, now, clock) {
+            Ok(found) => Ok(hits(&found) == if call.there.is_some() { COUNT } else { 0 }),
+            Err(refused) => Err(call.not_all_got(&refused.found)),
+        },
+        _ => match cache.invalidate_many(&keys, now, clock) {
+            Ok(()) => Ok(true),
+            Err(refused) => Err(call.not_all_told(refused, words)),
+        },
+    }
+}
+
+/// Whether what a call has left that was refused at this text is done with that and those behind it, one by one. If it
+/// was taken out without notice, it is put in again before.
+pub fn are_done<C: Asked>(cache: &mut C, call: Call, done: u64, words: Words) -> bool {
+    let ask = match call.ask {
+        Ask::InsertMany => Ask::Insert,
+        Ask::GetMany => Ask::Get,
+        _ => Ask::Invalidate,
+    };
+    let insert = Call {
+        ask: Ask::Insert,
+        ..call
+    };
+    let is_invalidated = matches!(ask, Ask::Invalidate);
+    let mut are_right = !is_invalidated || is_right(cache, insert, item(words, done));
+    for index in done..COUNT {
+        are_right = is_right(cache, Call { ask, ..call }, item(words, index)) && are_right;
+    }
+    are_right
+}
+
 /// How many texts are visible, if they can be listed.
-fn listed(cache: &Cached, words: Words) -> Option<usize> {
-    match cache.iter(words.now) {
-        Ok(entries) => Some(entries.len()),
-        Err(_) => None,
-    }
-}
-
-/// How many texts are visible.
 fn visible(notes: &mut Notes, cache: &Cached, words: Words) -> Option<usize> {
-    let before = told_by(cache);
-    let first = listed(cache, words);
-    if first.is_some() {
-        return first;
+    let before = cache.told("", words);
+    for _ in 0..TRIES {
+        match cache.iter(words.now) {
+            Ok(entries) => return Some(entries.len()),
+            Err(_) => {
+                let refused = Refused::new(Left::Call, "", true);
+                notes.refused("Cache::iter", refused, &before, &cache.told("", words));
+            }
+        }
     }
-    notes.refused("Cache::iter", Refused::new(), &before, &told_by(cache));
-    listed(cache, words)
+    None
 }
 
-/// Whether texts are put in, found, and others not.
-fn are_put_and_got(notes: &mut Notes, cache: &mut Cached, words: Words) -> bool {
-    let put = Call::new(Ask::Insert, "Cache::insert_many", TEXTS, false);
-    let find = Call::new(Ask::Get, "Cache::get_many", TEXTS, true);
-    let miss = Call::new(Ask::Get, "Cache::get_many", ("none", "value"), false);
-    let are_put = are_made(notes, cache, put, words);
-    let are_found = are_made(notes, cache, find, words);
-    are_made(notes, cache, miss, words) && are_put && are_found
-}
-
-/// Makes each call with texts of this number, of which each second ones are taken out; then a run is made.
-pub fn round(notes: &mut Notes, cache: &mut Cached, words: Words) -> Round {
-    let removal = Call::new(Ask::Invalidate, "Cache::invalidate_many", TEXTS, false);
-    let are_got = are_put_and_got(notes, cache, words);
-    let visible = visible(notes, cache, words);
-    let are_kept = words.number % 2 == 0;
-    let are_taken_out = are_kept || are_made(notes, cache, removal, words);
-    run(cache, words, are_got && are_taken_out, visible)
+/// Makes each call with the texts of each number, of which each second ones are taken out; a run is made after those of
+/// each.
+pub fn make_rounds<W: Write>(out: &mut W, notes: &mut Notes, cache: &mut Cached) -> io::Result<()> {
+    for number in 0..ROUNDS {
+        let words = Words::new(notes.alloc, number);
+        let are_got = are_made(notes, cache, "many", &CALLS, words);
+        let are_missed = are_made(notes, cache, "none", &MISSES, words);
+        let visible = visible(notes, cache, words);
+        let are_kept = number % 2 == 0;
+        let are_taken_out = are_kept || are_made(notes, cache, "many", &REMOVAL, words);
+        let is_right = are_got && are_missed && are_taken_out;
+        finish(out, cache, words, is_right, visible)?;
+    }
+    Ok(())
 }

@@ -1,9 +1,12 @@
 //! The texts that calls are made with, and which call was refused.
 use crate::report::{Refused, Told};
-use moka_engine::{FixedClock, InsertRefused, Instant};
-use std::alloc::{AllocError, Global};
+use moka_engine::Instant;
+use std::alloc::Global;
 use std::io;
 use std::io::Write;
+
+/// How often it is tried to make something: memory is refused once at most.
+pub const TRIES: u64 = 2;
 
 /// Makes the texts of a round, each of a word and the round's number, and tells the moment of its calls.
 #[derive(Clone, Copy)]
@@ -20,42 +23,19 @@ impl Words {
         Words { alloc, number, now }
     }
 
-    /// Those of another number, at the same moment.
-    pub fn numbered(self, number: u64) -> Self {
-        let mut words = self;
-        words.number = number;
-        words
-    }
-
-    pub fn clock(self) -> FixedClock {
-        FixedClock(self.now)
-    }
-
     /// A word with the number. Where memory for it is refused, it is made again; an empty text if that is refused too.
     pub fn text(self, word: &str) -> String {
-        match self.make(word) {
-            Ok(text) => text,
-            Err(_) => self.make(word).unwrap_or(String::new(self.alloc)),
+        for _ in 0..TRIES {
+            if let Ok(text) = format!(in self.alloc; "{word} {}", self.number) {
+                return text;
+            }
         }
-    }
-
-    fn make(self, word: &str) -> Result<String, AllocError> {
-        format!(in self.alloc; "{word} {}", self.number)
+        String::new(self.alloc)
     }
 
     /// Whether a text is a word with the number.
     pub fn is(self, word: &str, text: &String) -> bool {
         *text == self.text(word)
-    }
-
-    /// How many bytes the text of a word has.
-    pub fn len(self, word: &str) -> usize {
-        self.text(word).len()
-    }
-
-    /// Whether key and value came back.
-    pub fn is_back(self, key: &str, value: &str, refused: &InsertRefused<String, String>) -> bool {
-        self.is(key, &refused.key) && self.is(value, &refused.value)
     }
 
     /// Whether what was found is the text of this word, or nothing where no word is given.

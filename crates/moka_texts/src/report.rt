@@ -1,6 +1,6 @@
 //! What a cache tells of itself, and its listener of it.
 use moka_cache::Stats;
-use moka_engine::{Engine, Listener, NoExpiry, NoPredicate, OutOfMemory, RemovalCause, Ticket};
+use moka_engine::{Engine, Listener, NoExpiry, NoPredicate, RemovalCause, Ticket};
 
 /// Counts the notices, and the bytes of their keys and values.
 #[derive(Clone, Copy)]
@@ -60,6 +60,7 @@ impl Told {
         let Refused { counted, .. } = refused;
         let looked_up = counted.hits.wrapping_add(counted.misses) as usize;
         let mut after = self;
+        after.predicates = self.predicates.wrapping_add(refused.predicates);
         after.reads = self.reads.wrapping_add(looked_up);
         after.writes = self.writes.wrapping_add(refused.writes);
         after.notices = self.notices.wrapping_add(refused.notices);
@@ -74,22 +75,28 @@ impl Told {
 /// What is left to do of a refused call.
 #[derive(Clone, Copy)]
 pub enum Left {
+    /// Nothing: it was made again at once.
+    Nothing,
     /// All of it: nothing has changed.
     Call,
     /// The insert of its value.
     Insert,
     /// The value was taken out, and the listener is to be told of it.
     Notice,
+    /// All texts from this one on.
+    Texts(u64),
 }
 
-/// What a refused call has left to do and has done: what it counted, how many writes it queued of which the listener
-/// was not told, of how many texts with how many bytes it was told, and whether all came back that was handed in.
+/// What a refused call has left to do and has done: what it counted, how many predicates it registered, how many writes
+/// it queued of which the listener was not told, of how many texts with how many bytes it was told, and whether all
+/// came back that was handed in.
 #[derive(Clone, Copy)]
 pub struct Refused {
     pub left: Left,
     /// The step at which it was refused, where it has several.
     pub place: &'static str,
     pub counted: Stats,
+    pub predicates: u64,
     pub writes: usize,
     pub notices: u64,
     pub bytes: usize,
@@ -98,63 +105,16 @@ pub struct Refused {
 
 impl Refused {
     /// A call that has done nothing.
-    pub fn new() -> Self {
+    pub fn new(left: Left, place: &'static str, is_back: bool) -> Self {
         Refused {
-            left: Left::Call,
-            place: "",
+            left,
+            place,
             counted: Stats::new(),
+            predicates: 0,
             writes: 0,
             notices: 0,
             bytes: 0,
-            is_back: true,
+            is_back,
         }
     }
-
-    /// A call that has done nothing, with what came back of it.
-    pub fn before_all(place: &'static str, is_back: bool) -> Self {
-        let mut refused = Refused::new();
-        (refused.place, refused.is_back) = (place, is_back);
-        refused
-    }
-
-    /// A look-up that found its key or not, and whose value was not put in.
-    pub fn before_insert(counted: Stats, is_back: bool) -> Self {
-        let mut refused = Refused::before_all(" at the insert", is_back);
-        (refused.left, refused.counted) = (Left::Insert, counted);
-        refused
-    }
-
-    /// A removal of which the listener was not told.
-    pub fn before_notice(place: &'static str, counted: Stats, is_back: bool) -> Self {
-        let mut refused = Refused::before_all(place, is_back);
-        (refused.left, refused.counted, refused.writes) = (Left::Notice, counted, 1);
-        refused
-    }
-}
-
-/// A call that does nothing where memory is refused.
-pub fn or_refused(answered: Result<bool, OutOfMemory>) -> Result<bool, Refused> {
-    match answered {
-        Ok(is_right) => Ok(is_right),
-        Err(_) => Err(Refused::new()),
-    }
-}
-
-/// A look-up that finds its key, or does not.
-pub fn looked_up(is_there: bool) -> Stats {
-    Stats {
-        hits: u64::from(is_there),
-        misses: u64::from(!is_there),
-        loads: 0,
-    }
-}
-
-/// What a round of calls showed: whether each answered as it should, how many texts with how many bytes were listed,
-/// whether a run left more to be done, and what the cache told then.
-#[derive(Clone, Copy)]
-pub struct Round {
-    pub is_right: bool,
-    pub listed: Option<usize>,
-    pub is_more: bool,
-    pub told: Told,
 }

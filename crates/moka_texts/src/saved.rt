@@ -1,60 +1,47 @@
-//! A cache that is saved, and another one that is made of what was saved, asked by texts that need not be owned.
-use crate::calls::{Ask, Call};
-use crate::notes::{Notes, Words};
-use crate::synchronous::{Cached, is_made};
-use moka_cache::RestoreManyRefused;
-use moka_engine::{Instant, OutOfMemory, Restored};
+//! A cache that is saved, and another one that is made of what was saved.
+use crate::calls::{Ask, Row};
+use crate::notes::{Notes, TRIES, Words};
+use crate::rounds::are_made;
+use crate::synchronous::Cached;
+use moka_engine::{FixedClock, Instant, Restored};
 
-/// How many texts are saved.
-const SAVED: u64 = 4;
+/// The texts that are put in and saved, and then found.
+const PUT: [Row; 1] = [(Ask::InsertMany, "Cache::insert_many", "text", None)];
 
-/// When they are.
-const NOW: Instant = Instant(1_000);
+const FOUND: [Row; 1] = [(Ask::GetMany, "Cache::get_many", "text", Some("text"))];
 
-type Saved = Vec<Restored<String, String>>;
-
-/// Clones of a cache's entries.
-fn save(notes: &mut Notes, cache: &mut Cached, words: Words) -> Result<Saved, OutOfMemory> {
-    let saved = cache.save(words.alloc, words.now, &mut words.clock());
-    if saved.is_ok() {
-        return saved;
+/// Clones of a cache's entries, if it can be saved.
+fn save(
+    notes: &mut Notes,
+    cache: &mut Cached,
+    words: Words,
+) -> Option<Vec<Restored<String, String>>> {
+    for _ in 0..TRIES {
+        match cache.save(words.alloc, words.now, &mut FixedClock(words.now)) {
+            Ok(saved) => return Some(saved),
+            Err(_) => notes.say("Cache::save", ""),
+        }
     }
-    notes.say("Cache::save", "");
-    cache.save(words.alloc, words.now, &mut words.clock())
+    None
 }
 
-/// Puts all entries back. One that is refused comes back with those behind it.
-fn are_put_back(
+/// Whether all entries are put back. One that is refused is put back again, and then those behind it.
+fn are_restored(
+    notes: &mut Notes,
     cache: &mut Cached,
-    refused: RestoreManyRefused<String, String>,
+    saved: Vec<Restored<String, String>>,
     words: Words,
 ) -> bool {
-    let clock = &mut words.clock();
+    let clock = &mut FixedClock(words.now);
+    let Err(refused) = cache.restore(saved, words.now, clock) else {
+        return true;
+    };
+    notes.say("Cache::restore", "");
     let mut is_right = cache
         .restore_entry(refused.refused.item, words.now, clock)
         .is_ok();
     for item in refused.rest {
         is_right = cache.restore_entry(item, words.now, clock).is_ok() && is_right;
-    }
-    is_right
-}
-
-/// Whether all entries are put back. One that is refused is put back again, and then those behind it.
-fn are_restored(notes: &mut Notes, cache: &mut Cached, saved: Saved, words: Words) -> bool {
-    match cache.restore(saved, words.now, &mut words.clock()) {
-        Ok(()) => true,
-        Err(refused) => {
-            notes.say("Cache::restore", "");
-            are_put_back(cache, refused, words)
-        }
-    }
-}
-
-/// Whether a call answers as it should for the texts that are saved.
-fn are_made(notes: &mut Notes, cache: &mut Cached, call: Call, words: Words) -> bool {
-    let mut is_right = true;
-    for number in 0..SAVED {
-        is_right = is_made(notes, cache, call, words.numbered(number)) && is_right;
     }
     is_right
 }
@@ -65,15 +52,12 @@ pub fn is_saved(notes: &mut Notes, first: &mut Cached, second: &mut Cached) -> b
     let words = Words {
         alloc: notes.alloc,
         number: 0,
-        now: NOW,
+        now: Instant(1_000),
     };
-    let texts = ("saved", "text");
-    let insert = Call::new(Ask::Insert, "Cache::insert", texts, false);
-    let get = Call::new(Ask::GetBy, "Cache::get_by", texts, true);
-    let are_put = are_made(notes, first, insert, words);
+    let are_put = are_made(notes, first, "saved", &PUT, words);
     let are_restored = match save(notes, first, words) {
-        Ok(saved) => are_restored(notes, second, saved, words),
-        Err(_) => false,
+        Some(saved) => are_restored(notes, second, saved, words),
+        None => false,
     };
-    are_made(notes, second, get, words) && are_put && are_restored
+    are_made(notes, second, "saved", &FOUND, words) && are_put && are_restored
 }
