@@ -61,7 +61,8 @@ pub fn get_offered(cache: &mut Cached, call: Call, words: Words) -> Found {
     }
 }
 
-/// Makes a call that computes what is to be done: the key is left, its value is put, or it is taken out.
+/// Makes a call that computes what is to be done: the key is left, its value is put, or it is taken out. In each second
+/// round it is the entry call that does so.
 pub fn compute(cache: &mut Cached, call: Call, words: Words) -> Result<Option<String>, Refused> {
     let key = words.text(call.key);
     let op = match call.ask {
@@ -70,7 +71,13 @@ pub fn compute(cache: &mut Cached, call: Call, words: Words) -> Result<Option<St
         _ => Op::Nop,
     };
     let choose = |_: Option<&String>| op;
-    match cache.compute_with(key, choose, words.now, &mut FixedClock(words.now)) {
+    let (now, clock) = (words.now, &mut FixedClock(words.now));
+    let computed = if words.number % 2 == 0 {
+        cache.compute_with(key, choose, now, clock)
+    } else {
+        cache.entry(key).and_compute_with(choose, now, clock)
+    };
+    match computed {
         Ok(done) => Ok(call.computed(done)),
         Err(refused) => Err(call.not_computed(refused, words)),
     }
@@ -155,14 +162,14 @@ const NOTHING: [Row; 3] = [
     GONE,
 ];
 
-/// What is computed in turn of a text that is not there at first.
-const COMPUTED: [Row; 6] = [
-    (Ask::Leave, "Cache::compute_with", "value", None),
-    (Ask::Put, "Cache::compute_with", "value", None),
-    (Ask::Put, "Cache::compute_with", "value", Some("value")),
-    (Ask::Leave, "Cache::compute_with", "value", Some("value")),
-    (Ask::TakeOut, "Cache::compute_with", "value", Some("value")),
-    (Ask::TakeOut, "Cache::compute_with", "value", None),
+/// What is computed in turn of a text that is not there at first: what is to be done, and the value that is there before.
+const COMPUTED: [(Ask, Option<&str>); 6] = [
+    (Ask::Leave, None),
+    (Ask::Put, None),
+    (Ask::Put, Some("value")),
+    (Ask::Leave, Some("value")),
+    (Ask::TakeOut, Some("value")),
+    (Ask::TakeOut, None),
 ];
 
 /// Whether all calls that hand out a value answer as they should, each for a key that is not there and for one that is,
@@ -185,13 +192,28 @@ fn are_asked(notes: &mut Notes, cache: &mut Cached, words: Words) -> bool {
     is_right
 }
 
+/// Whether all calls that compute what is to be done answer as they should.
+fn are_computed(notes: &mut Notes, cache: &mut Cached, words: Words) -> bool {
+    let name = if words.number % 2 == 0 {
+        "Cache::compute_with"
+    } else {
+        "OwnedKeyEntrySelector::and_compute_with"
+    };
+    let mut is_right = true;
+    for (ask, there) in COMPUTED {
+        let row = [(ask, name, "value", there)];
+        is_right = are_made(notes, cache, "computed", &row, words) && is_right;
+    }
+    is_right
+}
+
 /// Makes each call with the texts of each number; a run is made after those of each.
 pub fn make_rounds<W: Write>(out: &mut W, notes: &mut Notes, cache: &mut Cached) -> io::Result<()> {
     for number in 0..ROUNDS {
         let words = Words::new(notes.alloc, number);
         let are_asked = are_asked(notes, cache, words);
         let is_nothing_made = are_made(notes, cache, "nothing", &NOTHING, words);
-        let are_computed = are_made(notes, cache, "computed", &COMPUTED, words);
+        let are_computed = are_computed(notes, cache, words);
         let is_right = are_asked && is_nothing_made && are_computed;
         finish(out, cache, words, is_right, None)?;
     }

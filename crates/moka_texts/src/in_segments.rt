@@ -24,15 +24,14 @@ const CALLS: [Row; 3] = [
     (Ask::Get, "SegmentedCache::get", "value", Some("value")),
 ];
 
-/// A text is made that is not there, and then found.
-const MADE: [Row; 2] = [
-    (Ask::GetWith, "SegmentedCache::get_with", "made", None),
+/// The calls with a maker, each of which is made in each third round.
+const MAKERS: [(Ask, &str); 3] = [
+    (Ask::GetWith, "SegmentedCache::get_with"),
     (
-        Ask::GetWith,
-        "SegmentedCache::get_with",
-        "other",
-        Some("made"),
+        Ask::OptionallyGetWith,
+        "SegmentedCache::optionally_get_with",
     ),
+    (Ask::TryGetWith, "SegmentedCache::try_get_with"),
 ];
 
 /// A predicate is registered in each segment.
@@ -43,10 +42,17 @@ const REGISTER: [Row; 1] = [(
     None,
 )];
 
-/// A text is taken out.
+/// A text is taken out, in one of two ways.
 const REMOVAL: [Row; 1] = [(
     Ask::Remove,
     "SegmentedCache::remove",
+    "value",
+    Some("value"),
+)];
+
+const INVALIDATION: [Row; 1] = [(
+    Ask::Invalidate,
+    "SegmentedCache::invalidate",
     "value",
     Some("value"),
 )];
@@ -78,6 +84,31 @@ fn register(cache: &mut Segmented, call: Call, words: Words) -> Result<Option<St
     }
 }
 
+/// A call that makes the value if the key is not there.
+fn get_made(cache: &mut Segmented, call: Call, words: Words) -> Result<Option<String>, Refused> {
+    let (key, made) = (words.text(call.key), words.text(call.value));
+    let (now, clock) = (words.now, &mut FixedClock(words.now));
+    let found = match call.ask {
+        Ask::OptionallyGetWith => cache.optionally_get_with(key, || Some(made), now, clock),
+        Ask::TryGetWith => {
+            let init = || Ok::<String, u64>(made);
+            cache.try_get_with(key, init, now, clock).map(Result::ok)
+        }
+        _ => cache.get_with(key, || made, now, clock).map(Some),
+    };
+    call.handed_out(found, words)
+}
+
+/// Whether a text is made that is not there, and then found.
+fn is_made(notes: &mut Notes, cache: &mut Segmented, words: Words) -> bool {
+    let (ask, name) = MAKERS[(words.number % 3) as usize];
+    let rows = [
+        (ask, name, "made", None),
+        (ask, name, "other", Some("made")),
+    ];
+    are_made(notes, cache, "made by", &rows, words)
+}
+
 impl Asked for Segmented {
     fn is_answered(&mut self, call: Call, words: Words) -> Result<bool, Refused> {
         let key = words.text(call.key);
@@ -91,10 +122,11 @@ impl Asked for Segmented {
                 Ok(removed) => Ok(removed),
                 Err(refused) => Err(call.not_told(&refused, words)),
             },
-            Ask::GetWith => {
-                let made = words.text(call.value);
-                call.handed_out(self.get_with(key, || made, now, clock).map(Some), words)
-            }
+            Ask::Invalidate => match self.invalidate(&key, now, clock) {
+                Ok(()) => Ok(None),
+                Err(refused) => Err(call.not_told(&refused, words)),
+            },
+            Ask::GetWith | Ask::OptionallyGetWith | Ask::TryGetWith => get_made(self, call, words),
             Ask::Register => register(self, call, words),
             _ => match self.get(&key, now, clock) {
                 Ok(found) => Ok(found),
@@ -150,11 +182,14 @@ pub fn make_rounds<W: Write>(
     for number in 0..ROUNDS {
         let words = Words::new(notes.alloc, number);
         let is_got = are_made(notes, cache, "key", &CALLS, words);
-        let is_found = are_made(notes, cache, "made by", &MADE, words);
+        let is_found = is_made(notes, cache, words);
         let is_registered = are_made(notes, cache, "key", &REGISTER, words);
         let listed = listed(notes, cache, words);
-        let is_kept = number % 3 != 2;
-        let is_taken_out = is_kept || are_made(notes, cache, "key", &REMOVAL, words);
+        let is_taken_out = match number % 6 {
+            2 => are_made(notes, cache, "key", &REMOVAL, words),
+            5 => are_made(notes, cache, "key", &INVALIDATION, words),
+            _ => true,
+        };
         let is_right = is_got && is_found && is_registered && is_taken_out;
         finish(out, cache, words, is_right, listed)?;
     }
