@@ -1,5 +1,7 @@
 //! Laws of a cache in segments. The contract of each function is a law, and its body does nothing.
 ghost use Rattle.moka_parts.specs.Hashing.{key_hash};
+ghost use Rattle.moka_calls.specs.Laws.{KeepsPromises, MadeRunsAgeOut, anytime};
+ghost use Rattle.moka_calls.specs.Limits.{KeepsLimits};
 ghost use Rattle.moka_calls.specs.Synchronous.{meaning_of};
 ghost use Rattle.moka_segments.specs.Built.{SharesSum};
 ghost use Rattle.moka_segments.specs.Keys.{HoldNone, KeysBelong};
@@ -164,7 +166,9 @@ pub fn none_belong<
 {}
 
 /// What holds of moves (`each_runs`) holds of those that the cache's own calls are, in which identifiers are given, and
-/// listeners may be notified of clones. Moves after moves are moves, so it holds of a list of calls, however long.
+/// listeners may be notified of clones. Moves after moves are moves, so it holds of a list of calls, however long. The
+/// run of each segment keeps all that is promised of a list of calls, as those of a cache alone do (`keeps_promises`,
+/// `ages_out` and `keeps_limits` of `moka_calls`): so a segment's capacity stays if no call sets it.
 pub fn own_calls_run<
     K: Eq + Clone,
     V: Clone,
@@ -181,6 +185,12 @@ pub fn own_calls_run<
         (meaning_of K.eq L.tells P.says W.weighs C.reads X.created X.read X.updated)) }
     ensures go_on { MovesGoOn S (for_all_calls K.is_clone V.is_clone
         (meaning_of K.eq L.tells P.says W.weighs C.reads X.created X.read X.updated)) }
+    ensures promises { KeepsPromises S (anytime (for_all_calls K.is_clone V.is_clone
+        (meaning_of K.eq L.tells P.says W.weighs C.reads X.created X.read X.updated))) }
+    ensures ages_out { MadeRunsAgeOut S (anytime (for_all_calls K.is_clone V.is_clone
+        (meaning_of K.eq L.tells P.says W.weighs C.reads X.created X.read X.updated))) }
+    ensures limits { KeepsLimits S (anytime (for_all_calls K.is_clone V.is_clone
+        (meaning_of K.eq L.tells P.says W.weighs C.reads X.created X.read X.updated))) }
 {}
 
 /// What each call by key ensures is a move of the key's own segment, of the calls that it stands for;

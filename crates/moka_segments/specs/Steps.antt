@@ -12,6 +12,7 @@ use Rattle.moka_parts.specs.State.{Meaning, is_disabled}
 use Rattle.moka_calls.specs.declared.error.GetWithRefused.{GetWithRefused}
 use Rattle.moka_parts.specs.Counters.{after_look_up}
 use Rattle.moka_cache.specs.Unsent.{IsThere, ShowsWrites}
+use Rattle.moka_calls.specs.Given.{Sees}
 use Rattle.moka_calls.specs.Synchronous.{Synchronous, Makes, hears_clones, InsertsEntry, GetsValue, RemovesEntry}
 use Rattle.moka_calls.specs.Synchronous as own
 
@@ -36,6 +37,7 @@ module _ {K V S X L P W C : Type 0} (m : Meaning K V X L P W C (Unit {0})) (hash
         × Makes m (GetsValue key (hash_of old.engine.hasher key) now own) old.engine clock new.engine clock_after
     pub value : IfOk result (λ found. IfSome found (λ v. (r : Record K V)
         × (record_of_key m.eq old.engine.state.records key ≡ Some r) × is_clone r.value v))
+    pub sees : IfOk result (Sees m.eq m.says is_clone old.engine.state key now.0)
     pub shown : IfOk result (λ found. ContainsStep m.says m.eq old.engine.state key now.0 (is_some found))
     pub found : ContainsStep m.says m.eq old.engine.state key now.0 true → IfOk result (λ found. is_some found ≡ true)
     pub unchanged : OnErr result ((new.engine.state ≡ old.engine.state) × (clock_after ≡ clock))

@@ -9,6 +9,7 @@ use Rattle.moka_parts.specs.Runs.{Befalls}
 use Rattle.moka_parts.specs.State.{Meaning}
 use Rattle.moka_parts.specs.Time.{greatest, plus}
 use Rattle.moka_parts.specs.declared.stats.Stats.{Stats}
+use Rattle.moka_cache.specs.Saved.{HasOnlyMembers}
 use Rattle.moka_calls.specs.Synchronous.{Synchronous, Makes, Just, own_run}
 
 -- a segment hides what was written or read before the moment
@@ -24,6 +25,7 @@ pub record Ran {K V S X L P W C : Type 0} (m : Meaning K V X L P W C (Unit {0}))
   pub made : Makes m (Just (own_run now) (reply.Run more)) old.engine clock new.engine clock_after
   pub exact : IsExact new.engine.state
   pub within : IsWithin new.engine.state.capacity new.engine.state.access
+  pub members : HasOnlyMembers new.engine.state
   pub counted : new.stats ≡ old.stats
 
 -- the segments ran one after the other, and more is left where one told so

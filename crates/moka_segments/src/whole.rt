@@ -101,7 +101,7 @@ impl<
     /// Runs maintenance of each segment in turn, without a time limit. The answer tells whether more is left of any.
     ///
     /// It leaves count and weight of each segment exactly its entries', and the weight of all within the capacity of
-    /// all.
+    /// all. A snapshot of a segment then leaves no visible entry out.
     pub fn run_pending_tasks<C: Clock>(&mut self, now: Instant, clock: &mut C) -> bool
     where
         K: Drop,

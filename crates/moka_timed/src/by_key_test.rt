@@ -1,5 +1,5 @@
 //! Look-ups and removals by a test of the key in place of a key.
-ghost use Rattle.std.specs.Prelude.{◌≡◌, true, Option, Some, None, Result, IfOk, IfSome, OnErr, is_some};
+ghost use Rattle.std.specs.Prelude.{◌≡◌, true, Option, Some, None, Result, IfOk, IfSome, OnErr, is_some, option_map};
 ghost use Rattle.moka_parts.specs.Calls.{ContainsStep};
 ghost use Rattle.moka_parts.specs.Copies.{IsCopiedAnswer};
 ghost use Rattle.moka_parts.specs.KeyTests.{ContainsByStep, record_by};
@@ -9,7 +9,8 @@ ghost use Rattle.moka_parts.specs.declared.records.Record.{Record};
 ghost use Rattle.moka_parts.specs.Counters.{after_look_up};
 ghost use Rattle.moka_parts.specs.Hashing.{key_hash};
 ghost use Rattle.moka_timed.specs.Moments.{AtItsMoment, AtItsOnlyMoment};
-ghost use Rattle.moka_calls.specs.Synchronous.{GetsValue, Makes, RemovesEntry, hears_clones, invalidated, meaning_of, removed};
+ghost use Rattle.moka_calls.specs.Given.{Sees};
+ghost use Rattle.moka_calls.specs.Synchronous.{GetsValue, Makes, RemovesEntry, hears_clones, invalidated, meaning_of, removed, taken_out};
 
 use crate::cache::TimedCache;
 use moka_cache::error::NotTold;
@@ -67,7 +68,9 @@ impl<
             × IsCopiedAnswer V.is_clone own result
             × Makes (meaning_of K.eq L.tells P.says W.weighs C.reads X.created X.read X.updated)
             (GetsValue key hash now own) old.engine clock new.engine clock_after)
-            × IfOk result (λ found. ContainsByStep P.says (T.passes test.now) old.engine.state now.0 (is_some found))) }
+            × IfOk result (λ found. ContainsByStep P.says (T.passes test.now) old.engine.state now.0 (is_some found))
+            × ((key : K) → T.passes test.now key ≡ true
+            → IfOk result (Sees K.eq P.says V.is_clone old.engine.state key now.0))) }
         ensures value { IfOk result (λ found. IfSome found (λ v. (r : Record K V)
             × (record_by (T.passes test.now) self.old.cache.engine.state.records ≡ Some r)
             × V.is_clone r.value v)) }
@@ -96,6 +99,8 @@ impl<
             X.created X.read X.updated) (RemovesEntry key hash now taken) old.engine clock new.engine clock_after) }
         ensures gone { (key : K) → T.passes test.now key ≡ true
             → record_of_key K.eq self.new.cache.engine.state.records key ≡ None }
+        ensures value { (key : K) → T.passes test.now key ≡ true → taken_out result
+            ≡ option_map (λ r. r.value) (record_of_key K.eq self.old.cache.engine.state.records key) }
         ensures counted { self.new.cache.stats ≡ self.old.cache.stats }
     {
         let now = self.clock.now();

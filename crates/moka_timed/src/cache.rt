@@ -18,6 +18,7 @@ ghost use Rattle.moka_parts.specs.Hashing.{key_hash};
 ghost use Rattle.moka_cache.specs.Saved.{HasOnlyMembers};
 ghost use Rattle.moka_cache.specs.Unsent.{IsThere, ShowsWrites};
 ghost use Rattle.moka_timed.specs.Moments.{AtItsMoment, AtItsOnlyMoment, AtAnyMoment};
+ghost use Rattle.moka_calls.specs.Given.{Sees};
 ghost use Rattle.moka_calls.specs.Synchronous.{fresh, Makes, meaning_of, hears_clones, Just, own_run, InsertsEntry, GetsValue, RemovesEntry, removed, invalidated, taken_out, GetsWith, GetsWithIfMade, GetsWithIfNoError};
 
 use moka_cache::cache::Cache;
@@ -181,7 +182,8 @@ impl<
             × Makes (meaning_of K.eq L.tells P.says W.weighs C.reads X.created X.read X.updated)
             (GetsValue key.now (key_hash S.BuildHasher S.Hasher.Hasher old.engine.hasher (K.hash_input key.now))
             now own) old.engine clock new.engine clock_after)
-            × IfOk result (λ found. ContainsStep P.says K.eq old.engine.state key.now now.0 (is_some found))) }
+            × IfOk result (λ found. ContainsStep P.says K.eq old.engine.state key.now now.0 (is_some found))
+            × IfOk result (Sees K.eq P.says V.is_clone old.engine.state key.now now.0)) }
         ensures value { IfOk result (λ found. IfSome found (λ v. (r : Record K V)
             × (record_of_key K.eq self.old.cache.engine.state.records key.now ≡ Some r) × V.is_clone r.value v)) }
         ensures unchanged { OnErr result (self.new.cache.engine.state ≡ self.old.cache.engine.state) }

@@ -1,18 +1,22 @@
-//! Sessions of users who may have several: a log-out ends all that a user has, by a predicate.
+//! Sessions of users who may have several: each ends if it is not used, a log-out ends all that a user has, by a
+//! predicate, and those that have not ended are saved when the program ends.
 ghost use Rattle.std.specs.Prelude.{◌≡◌, ◌==◌, true, false, is_some, Some, IfErr, IfOk, IfSome, OnErr};
 ghost use Rattle.std.specs.Duration.{as_nanos};
 ghost use Rattle.moka_engine.specs.parts.Instant.{Instant};
 ghost use Rattle.moka_engine.specs.Calls.{ContainsStep};
 ghost use Rattle.moka_engine.specs.Config.{default_config};
+ghost use Rattle.moka_engine.specs.Snapshots.{scene_of};
 ghost use Rattle.moka_engine.specs.State.{is_disabled};
+ghost use Rattle.moka_cache.specs.Saved.{AreSaved, HasOnlyMembers};
 ghost use Rattle.moka_cache.specs.Unsent.{IsThere};
 ghost use Rattle.moka_timed_uses.specs.Logins.{LogsOut, is_of, meaning};
+ghost use Rattle.moka_timed_uses.specs.Restarted.{Runs};
 ghost use Rattle.moka_uses.specs.Made.{HasValue, Inserts, IsNew, LooksUp, Registers};
 
 use moka_engine::laws::stays_hidden;
 use moka_engine::{
     CacheConfig, Clock, IdSource, InsertRefused, NoExpiry, NoListener, NoWeigher, OutOfMemory,
-    PredicateFn, PredicateId, PredicateRefused,
+    PredicateFn, PredicateId, PredicateRefused, Restored,
 };
 use moka_timed::TimedCache;
 use std::alloc::Global;
@@ -126,4 +130,24 @@ pub fn log_out<C: Clock, I: IdSource>(
     let registered = logins.invalidate_entries_if(OfUser(user), ids);
     logins.cache.engine().invariant_holds();
     registered
+}
+
+/// The sessions that have not ended, the one used least recently first: no session is left out that is shown at the
+/// clock's moment, and none is among them that a log-out has ended. A run of maintenance is made before, and no other
+/// call. [`restarted`](crate::restarted) puts such a list back.
+///
+/// # Errors
+/// `OutOfMemory`
+pub fn save<C: Clock>(
+    alloc: Global,
+    logins: &mut Logins<C>,
+) -> Result<Vec<Restored<u64, Session>>, OutOfMemory>
+    ensures members { HasOnlyMembers logins.new.cache.engine.state }
+    ensures saved { (now : Instant) × (read : C) × C.reads logins.old.clock now read
+        × IfOk result (λ saved. AreSaved is_of (λ a b. b ≡ a) (λ a b. b ≡ a)
+        (scene_of logins.new.cache.engine.state now.0) logins.new.cache.engine.state.access saved.items)
+        × Runs (meaning C.reads (λ _ _ _. ⊥)) now logins.old.cache.engine read
+        logins.new.cache.engine logins.new.clock }
+{
+    logins.save(alloc)
 }

@@ -8,7 +8,8 @@ ghost use Rattle.moka_parts.specs.declared.error.OutOfMemory.{OutOfMemory};
 ghost use Rattle.moka_parts.specs.declared.records.Record.{Record};
 ghost use Rattle.moka_parts.specs.Counters.{after_look_up};
 ghost use Rattle.moka_parts.specs.Hashing.{key_hash};
-ghost use Rattle.moka_calls.specs.Synchronous.{GetsValue, Makes, RemovesEntry, hears_clones, invalidated, meaning_of, removed};
+ghost use Rattle.moka_calls.specs.Given.{Sees};
+ghost use Rattle.moka_calls.specs.Synchronous.{GetsValue, Makes, RemovesEntry, hears_clones, invalidated, meaning_of, removed, taken_out};
 
 use super::{Cache, invalidated, removed, value_of};
 use moka_calls::error::NotTold;
@@ -71,8 +72,13 @@ impl<
             (GetsValue key hash now own) self.old.engine clock.old self.new.engine clock.new }
         ensures value { IfOk result (λ found. IfSome found (λ v. (r : Record K V)
             × (record_by (T.passes test.now) self.old.engine.state.records ≡ Some r) × V.is_clone r.value v)) }
+        ensures sees { (key : K) → T.passes test.now key ≡ true
+            → IfOk result (Sees K.eq P.says V.is_clone self.old.engine.state key now.0) }
         ensures shown { IfOk result
             (λ found. ContainsByStep P.says (T.passes test.now) self.old.engine.state now.0 (is_some found)) }
+        ensures found { (key : K) → T.passes test.now key ≡ true
+            → ContainsStep P.says K.eq self.old.engine.state key now.0 true
+            → IfOk result (λ found. is_some found ≡ true) }
         ensures unchanged { OnErr result ((self.new.engine.state ≡ self.old.engine.state) × (clock.new ≡ clock.old)) }
         ensures counted { self.new.stats ≡ after_look_up result self.old.stats }
     {
@@ -107,6 +113,8 @@ impl<
             (RemovesEntry key hash now taken) self.old.engine clock.old self.new.engine clock.new }
         ensures gone { (key : K) → T.passes test.now key ≡ true
             → record_of_key K.eq self.new.engine.state.records key ≡ None }
+        ensures value { (key : K) → T.passes test.now key ≡ true → taken_out result
+            ≡ option_map (λ r. r.value) (record_of_key K.eq self.old.engine.state.records key) }
         ensures counted { self.new.stats ≡ self.old.stats }
     {
         removed(self.take_by(test, hash, now, clock))

@@ -1,8 +1,9 @@
 //! Tests of `moka_timed_uses::logins`.
 use moka_engine::Instant;
 use moka_timed::ManualClock;
-use moka_timed_uses::logins::{Logins, Session, find, log_in, log_out, start};
+use moka_timed_uses::logins::{Logins, Session, find, log_in, log_out, save, start};
 use moka_uses::invalidated::CountedIds;
+use std::alloc::Global;
 use std::time::Duration;
 
 type TestLogins = Logins<ManualClock>;
@@ -21,6 +22,14 @@ fn ends_one(logins: &mut TestLogins) -> bool {
     is_out && find(logins, 1) == Ok(None) && find(logins, 2) == Ok(Some(OTHER))
 }
 
+// Whether the session that is left is saved, and no other.
+fn saves_the_other(alloc: Global, logins: &mut TestLogins) -> bool {
+    match save(alloc, logins) {
+        Ok(saved) => matches!(saved.as_slice(), [item] if item.key == 2 && item.value == OTHER),
+        Err(_) => false,
+    }
+}
+
 #[test]
 fn a_log_out_ends_all_of_a_user(rt: HostRuntime) {
     let clock = ManualClock { now: Instant(0) };
@@ -28,4 +37,5 @@ fn a_log_out_ends_all_of_a_user(rt: HostRuntime) {
         panic!(rt; "memory");
     };
     assert!(rt; begins_two(&mut logins) && ends_one(&mut logins));
+    assert!(rt; saves_the_other(rt.alloc(), &mut logins));
 }

@@ -135,7 +135,9 @@ pub fn none_belong<
 {}
 
 /// What holds of moves (`each_runs`) holds of those that the cache's own calls are, in which identifiers are given, and
-/// listeners may be notified of clones. Moves after moves are moves, so it holds of a list of calls, however long.
+/// listeners may be notified of clones. Moves after moves are moves, so it holds of a list of calls, however long. The
+/// run of each segment keeps all that is promised of a list of calls, as those of a cache alone do (`keeps_promises`,
+/// `ages_out` and `keeps_limits` of `moka_calls`): so a segment's capacity stays if no call sets it.
 pub fn own_calls_run<
     K: Eq + Clone,
     V: Clone,

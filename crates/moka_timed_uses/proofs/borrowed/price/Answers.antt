@@ -30,7 +30,7 @@ returns-clause-value g c = named c.args.prices.now.cache.engine.state c.args.nam
 
 pub returns-clause-found : goal.returns-clause-found
 returns-clause-found g c =
-    let (now, read, told, (made, shown)) = c.get_by.ensures.made in
+    let (now, read, told, (made, shown, sees)) = c.get_by.ensures.made in
     let s = c.args.prices.now.cache.engine.state in (
       now,
       read,

@@ -4,5 +4,5 @@ use Rattle.moka_timed_uses.proofs.logins.find.Goals as goal
 
 pub returns-clause-shown : goal.returns-clause-shown
 returns-clause-shown g c =
-    let (now, read, told, ((own, copied, made), shown)) = c.get.ensures.made in
+    let (now, read, told, ((own, copied, made), shown, sees)) = c.get.ensures.made in
     (now, read, told, shown, looked_up (meaning g.C.Clock.reads (λ _ _ _. ⊥)) c.args.number _ now c.args.logins.now.cache.engine read c.get.new.self.cache.engine c.get.new.self.clock own c.get.result copied made)

@@ -5,8 +5,9 @@ use crate::support::prelude::*;
 use crate::support::test::prelude::*;
 use crate::engine::moka_engine::Instant;
 use crate::proved_tests::moka_timed::ManualClock;
-use crate::proved_tests::moka_timed_uses::logins::{Logins, Session, find, log_in, log_out, start};
+use crate::proved_tests::moka_timed_uses::logins::{Logins, Session, find, log_in, log_out, save, start};
 use crate::proved_tests::moka_uses::invalidated::CountedIds;
+use crate::support::alloc::Global;
 use crate::support::time::Duration;
 
 type TestLogins = Logins<ManualClock>;
@@ -25,6 +26,14 @@ fn ends_one(logins: &mut TestLogins) -> bool {
     is_out && find(logins, 1) == Ok(None) && find(logins, 2) == Ok(Some(OTHER))
 }
 
+// Whether the session that is left is saved, and no other.
+fn saves_the_other(alloc: Global, logins: &mut TestLogins) -> bool {
+    match save(alloc, logins) {
+        Ok(saved) => matches!(saved.as_slice(), [item] if item.key == 2 && item.value == OTHER),
+        Err(_) => false,
+    }
+}
+
 #[test]
 fn a_log_out_ends_all_of_a_user() {
     let rt = HostRuntime;
@@ -33,4 +42,5 @@ fn a_log_out_ends_all_of_a_user() {
         panic!( "memory");
     };
     assert!( begins_two(&mut logins) && ends_one(&mut logins));
+    assert!( saves_the_other(rt.alloc(), &mut logins));
 }

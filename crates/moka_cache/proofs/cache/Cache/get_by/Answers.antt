@@ -4,9 +4,12 @@ use Rattle.moka_parts.specs.declared.records.Record.{Record}
 use Rattle.moka_parts.specs.KeyTests.{ContainsByStep, record_by}
 use Rattle.moka_parts.specs.Visibility.{IsShown}
 use Rattle.moka_parts.specs.Listed.{ListedRun}
+use Rattle.moka_parts.specs.Records.{record_of_key}
+use Rattle.moka_calls.specs.Given.{Sees}
 use Rattle.moka_calls.specs.Synchronous.{value_found}
 use Rattle.moka_laws.proofs.Alike.{gets_alike, listed_run_alike}
-use Rattle.moka_cache.proofs.Asking.{got, value_copied, handed_out, unchanged_when_refused}
+use Rattle.moka_cache.proofs.Waiting.{none_of_key}
+use Rattle.moka_cache.proofs.Asking.{got, value_copied, handed_out, seen_found, unchanged_when_refused}
 use Rattle.moka_cache.proofs.ByTest.{got_as_key, none_passes}
 use Rattle.moka_cache.proofs.cache.Cache.get_by.Goals as goal
 
@@ -29,6 +32,17 @@ returns-clause-value g c =
     let none_kept = none_passes g.K.PartialEq.eq (g.T.KeyTest.passes c.args.test.now) s c.invariant_holds.ensures.valid.numbered in
     rw (← c.self.view_is, c.value_of-found.ensures) (handed_out g.P.PredicateFn.says g.X.Expiry.read (ListedRun g.P.PredicateFn.says g.X.Expiry.read c.self.inside.engine.write_list c.get_by-entry.new.self.write_list) g.K.Clone.is_clone g.V.Clone.is_clone s (record_by (g.T.KeyTest.passes c.args.test.now) s.records) none_kept c.args.hash c.args.now.0 gets.0 c.get_by-entry.result gets.1.0 c.get_by-entry.new.self.state gets.1.1 gets.2
     (λ x. IfSome x (λ v. (r : Record g.row.K.Denot g.row.V.Denot) × (record_by (g.T.KeyTest.passes c.args.test.now) s.records ≡ Some r) × g.V.Clone.is_clone r.value v)) (λ r v there visible cloned. (r, there, cloned)) (λ hidden. tt))
+
+pub returns-clause-sees : goal.returns-clause-sees
+returns-clause-sees g c =
+    let s = c.self.inside.engine.state in
+    let gets = c.get_by-entry.ensures in
+    let as_key = got_as_key g.K.PartialEq.eq (g.T.KeyTest.passes c.args.test.now) (g.met.T.KeyTest.one_key c.args.test.now) s g.P.PredicateFn.says g.X.Expiry.read (ListedRun g.P.PredicateFn.says g.X.Expiry.read c.self.inside.engine.write_list c.get_by-entry.new.self.write_list) c.args.hash c.args.now.0 gets.0 gets.1.0 c.get_by-entry.new.self.state gets.1.1 in
+    rw (← c.self.view_is, c.value_of-found.ensures) (λ key passing. handed_out g.P.PredicateFn.says g.X.Expiry.read (ListedRun g.P.PredicateFn.says g.X.Expiry.read c.self.inside.engine.write_list c.get_by-entry.new.self.write_list) g.K.Clone.is_clone g.V.Clone.is_clone s (record_of_key g.K.PartialEq.eq s.records key) (none_of_key g.K.PartialEq.eq key s c.invariant_holds.ensures.valid.numbered) c.args.hash c.args.now.0 gets.0 c.get_by-entry.result gets.1.0 c.get_by-entry.new.self.state (as_key key passing) gets.2
+    (Sees g.K.PartialEq.eq g.P.PredicateFn.says g.V.Clone.is_clone s key c.args.now.0) (λ r v there visible cloned. (r, there, visible, cloned)) (λ hidden. hidden))
+
+pub returns-clause-found : goal.returns-clause-found
+returns-clause-found g c = λ key passing. seen_found g.K.PartialEq.eq g.P.PredicateFn.says g.V.Clone.is_clone c.args.self.now.engine.state key c.args.now.0 c.value_of-found.result (returns-clause-sees g c key passing)
 
 pub returns-clause-shown : goal.returns-clause-shown
 returns-clause-shown g c =

@@ -9,7 +9,7 @@ pub returns : goal.returns
 returns g c =
     let e = c.get.ensures in
     steps_in (λ r. segment_of r.count (key_hash g.S.BuildHasher g.S.Hasher.Hasher r.hasher (g.K.Hash.hash_input c.args.key.now))) c.self.view_is c.segment_of-index.ensures.place (rw c.self.invariant c.segment_of-index.ensures.within)
-    _ c.index_mut.result.now c.get.new.self c.index_mut.ensures.value (record { made = e.made; value = e.value; shown = e.shown; found = e.found; unchanged = e.unchanged; counted = e.counted })
+    _ c.index_mut.result.now c.get.new.self c.index_mut.ensures.value (record { made = e.made; value = e.value; sees = e.sees; shown = e.shown; found = e.found; unchanged = e.unchanged; counted = e.counted })
 
 pub index_mut-requires : goal.index_mut-requires
 index_mut-requires g c = within_all c.self.inside.segments.ok.0 c.self.invariant c.segment_of-index.ensures.within
