@@ -3,7 +3,7 @@
 Rattle's sources are Rust's, with clauses and ghost items among them. `deleted` takes these out and changes nothing
 else; `same_code.py` shows that Rattle's compiler makes the same code of the outcome. `erased` does the same, and then
 what Rust has otherwise: bounds and impls of `Drop` go, and paths and a few calls are renamed. A form that no rule
-knows, or a word of Rattle's that is left over, is refused.
+knows is refused, and so is an outcome that has more than the forms of Rust's that are listed here.
 """
 
 import collections
@@ -13,8 +13,30 @@ import re
 LIBRARIES = ["anyhow", "circular_buffer", "uuid"]
 STD = ["alloc", "collections", "hash", "io", "simd", "time"]
 STD_OF_TESTS = ["process", "rc", "test"]
-# What no outcome may have.
-LEFT_OVER = ["ghost", "requires", "ensures", "prove!", "Drop", "Model", "tactic", "unsafe", "HostRuntime)", "λ", "≡"]
+# What outcomes may have of Rust's, outside texts, characters and comments: attributes, macros, keywords, and those of
+# them that may stand behind a name or a closing bracket. The sources need no more.
+DERIVES = "Clone|Copy|Debug|Default|Eq|Hash|Ord|PartialEq|PartialOrd"
+ATTRIBUTES = r"inline(?:\((?:always|never)\))?|cold|test|cfg\(test\)|allow\(clippy::too_many_arguments\)|derive\(%s\)"
+ATTRIBUTE = re.compile(r"#\[(?:%s)\]" % ATTRIBUTES % rf"(?:{DERIVES})(?:, (?:{DERIVES}))*")
+MACROS = ["assert", "assert_eq", "assert_ne", "crate::support::test::text", "matches", "panic", "unreachable", "write",
+          "writeln"]
+BEHIND = "as|else|for|if|in|where"
+WORDS = BEHIND + "|const|enum|fn|impl|let|loop|match|mod|mut|pub|return|struct|trait|type|use|while"
+NUMBERS = "u8|u32|u64|u128|usize"
+# What no outcome may have, so that nothing of Rattle's is left over. Names stand behind keywords and marks, not behind
+# other names, as in `proof fn` or `fn f() decreases n`. Before a brace they are types or modules, or what is asked, as
+# in `if x {`.
+NOT_LEFT = [
+    ("a character of Rattle's", r"[^\x00-\x7f]"),
+    ("an attribute", r"#.*"),
+    ("a word of Rattle's", r"\b(?:ghost|requires|ensures|Drop|Model|unsafe)\b|\bHostRuntime\b(?!;)|==>"),
+    ("a clone that can fail", r"(?<!crate::support::)\bclone\b(?!\(&self\) -> Self \{)"),
+    ("a word behind a name", rf"\b(?!(?:{WORDS})\b)\w+\s+(?!(?:{BEHIND})\b)\w+"),
+    ("a word behind a bracket or text", rf"[])\"]\s*(?!(?:{BEHIND})\b)\w+"),
+    ("a word behind a type", r"\bfn\b[^{;]*[^-\s]\s*>\s*(?!where\b)\w+"),
+    ("a word before a brace", rf"(?:\A|[;{{]|}}(?=\s*\w)|=>)(?:(?!=>|\b(?:if|while|match|in|mod)\b)[^;{{}}])*"
+                              rf"\b(?!(?:else|loop|bool|str|{NUMBERS})\b)[a-z_]\w*\s*\{{"),
+]
 
 FORMS = [
     ("space", re.compile(r"\s+")),
@@ -49,11 +71,11 @@ class Refused(Exception):
 used = collections.Counter()
 
 
-def behind_braces(text, at):
+def behind_braces(text, at, opening="{", closing="}"):
     """The place behind the brace that closes the one at a place. Proof terms have no braces in strings."""
     depth = 0
     for i in range(at, len(text)):
-        depth += (text[i] == "{") - (text[i] == "}")
+        depth += (text[i] == opening) - (text[i] == closing)
         if depth == 0:
             return i + 1
     raise Refused(f"braces that do not close: {text[at:at + 60]}")
@@ -205,14 +227,32 @@ def with_preludes(text):
     return head + uses + body
 
 
-def literals(text):
-    """The texts and characters in a source, in order."""
-    found, at = [], 0
+def tokens(text):
+    """The forms in a source, in order: each one's kind, and the form."""
+    at = 0
     while at < len(text):
         kind, m = next((kind, m) for kind, form in FORMS if (m := form.match(text, at)))
-        found += [m.group()] if kind in ("string", "char") else []
+        yield kind, m.group()
         at = m.end()
-    return found
+
+
+def literals(text):
+    """The texts and characters in a source, in order."""
+    return [it for kind, it in tokens(text) if kind in ("string", "char")]
+
+
+def refuse_left_over(text):
+    """Refuses a source that has other forms than those that are listed at the top."""
+    left = {"string": '""', "char": '""', "lifetime": "'", "comment": ""}
+    code = "".join(left.get(kind, it) for kind, it in tokens(text))
+    code = re.sub(r"\bpub\((?:crate|super)\)", "pub", ATTRIBUTE.sub("", code))
+    for what, form in NOT_LEFT:
+        if m := re.search(form, code):
+            raise Refused(f"{what} is left over: {m.group()}")
+    # An argument that ends with a semicolon is Rattle's.
+    for m in re.finditer(rf"\b(?!(?:{WORDS})\b)((?:\w+::)*\w+)\s*!(?!=)(\(?)", code):
+        if m[1] not in MACROS or not m[2] or ";" in code[m.end():behind_braces(code, m.end() - 1, "(", ")")]:
+            raise Refused(f"a macro is left over: {code[m.start():m.end() + 60]}")
 
 
 def erased(text, crate, homes):
@@ -233,8 +273,5 @@ def erased(text, crate, homes):
     text = with_preludes(with_paths(text, crate, homes))
     if literals(text) != before:
         raise Refused("a text or a character was changed")
-    code = re.sub(r"//.*", "", text)
-    for word in LEFT_OVER:
-        if re.search(r"(?<!\w)%s(?!\w)" % re.escape(word), code):
-            raise Refused(f"{word} is left over")
+    refuse_left_over(text)
     return text

@@ -110,9 +110,55 @@ class Refuses(unittest.TestCase):
             'fn f() {\n    g("a.clone()");\n}\n',
             'fn f() {\n    g("std::io::x");\n}\n',
             "fn f() {\n    let x = a // as said\n    ;\n}\n",
+            "impl<K> Clone\n    for A<K>\n{\n    fn clone(&self) -> Result<Self, AllocError> {\n        A\n    }\n}\n",
         ]:
             with self.subTest(text), self.assertRaises(Refused):
                 erased(text, "moka_engine", HOMES)
+
+    def refuses(self, what, *texts):
+        for text in texts:
+            with self.subTest(text), self.assertRaisesRegex(Refused, f"^{what} is left over"):
+                erased(text, "moka_engine", HOMES)
+
+    def test_attributes(self):
+        self.refuses("an attribute", "#[decreases(n)]\nfn f() {}\n", "#[lemma]\nfn f() {}\n", "#![no_std]\n",
+                     "#[derive(Eq, Frob)]\nstruct A;\n", "#[derive(Eq, Drop, Frob)]\nstruct A;\n",
+                     "#[inline(often)]\nfn f() {}\n")
+
+    def test_macros(self):
+        self.refuses("a macro", "fn f() { assume!{ a } }\n", "fn f() { assume !(a) }\n",
+                     'fn f() { println!(rt; "a"); }\n', 'fn f() { write!(rt; "a") }\n', "fn f() { matches!{ a } }\n",
+                     "fn f() { text!(a) }\n", "fn f() { assert!(a(1); 2) }\n", "fn f() { vec![1] }\n")
+
+    def test_words(self):
+        self.refuses("a word behind a name", "proof fn f() {}\n", "pub spec fn f() {}\n", "pub(crate) spec fn f() {}\n",
+                     "fn f() -> bool decreases n {}\n", "fn f() decreases n {}\n", "fn f(tracked x: u64) {}\n")
+        self.refuses("a word behind a bracket or text", "fn f() decreases (n) {}\n", "fn f() invariant { x }\n",
+                     "fn f() -> [u8; 2] invariant { x }\n", 'fn f() { while a == "" invariant { x } }\n')
+        self.refuses("a word behind a type", "fn f() -> A<u64> decreases(n) {}\n", "fn f() -> A<u64> invariant { x }\n")
+        self.refuses("a word before a brace", "fn f() { invariant { x } }\n", "fn f() { let x = calc { a }; }\n",
+                     "fn f() { calc { .. } }\n", "fn f() { assert { a } }\n", "fn f() { g(); assert { a } by { b } }\n",
+                     "fn f() { match a { A => calc { b } } }\n", "fn f() { loop invariant { a } }\n", "spec { a }\n",
+                     "fn f() { if a { b } invariant { c } }\n")
+
+    def test_characters_and_calls(self):
+        self.refuses("a character of Rattle's", "fn f() { x ∧ 1 }\n", "fn f(é: u64) {}\n")
+        self.refuses("a word of Rattle's", "fn f(rt: HostRuntime, a: u64) {}\n", "fn f() { a ==> b }\n")
+        self.refuses("a clone that can fail", "fn f() { K::clone(&k)? }\n", "fn f() { k.clone( ) }\n")
+
+
+class Allows(unittest.TestCase):
+    def test_forms_of_rust(self):
+        for text in [
+            '// proof fn ∧\nfn f() -> &str { "proof fn ∧ #[lemma] a!{ b }" }\n',
+            "#[derive(Clone, Copy)]\npub(crate) struct A(pub(super) u64);\n",
+            "#[inline(always)]\nfn f<'a>(x: &'a mut u64) -> bool {\n    !(x as u64 != 1)\n}\n",
+            "impl<K> A<K> for B<K>\nwhere\n    K: Eq,\n{\n    fn f() -> A<K> where K: Eq { A { b: 1 } }\n}\n",
+            "fn f() {\n    let Some(x) = a.b() else { return !y };\n    for x in a[1..b] { if !c && d { g() } }\n}\n",
+            'fn f() {\n    while let A { b } = c {\n        write!(f, "", g(1));\n    }\n}\n',
+        ]:
+            with self.subTest(text):
+                self.assertEqual(made(text), text)
 
 
 if __name__ == "__main__":
