@@ -1,11 +1,15 @@
 #!/usr/bin/env python3
-"""Tests of the eraser: what each rule makes of its form, and which forms are refused."""
+"""Tests of the eraser: what each rule makes of its form, and which forms are refused. And of `same_code.py`, how it
+knows the symbol of a function.
+"""
 
+import re
 import sys
 import unittest
 
 sys.dont_write_bytecode = True
 from erase import Refused, deleted, erased  # noqa: E402
+from same_code import functions, symbols  # noqa: E402
 
 HOMES = {"moka_index": "engine", "moka_engine": "engine", "moka_tests": "proved_tests"}
 USES = "use crate::support::prelude::*;\n"
@@ -159,6 +163,45 @@ class Allows(unittest.TestCase):
         ]:
             with self.subTest(text):
                 self.assertEqual(made(text), text)
+
+
+class Symbols(unittest.TestCase):
+    def test_functions(self):
+        text = "fn f(a: &[u8; 8]) -> [u8; 2]\n    ensures { a }\n{\n    if x { 'f' }\n}\n"
+        text += "pub trait T<K> {\n    fn none(&self);\n    fn f(&self) {}\n}\n"
+        text += "struct Of;\nimpl<\n    K: Fn(&K) -> u64,\n> Of<K> {\n    fn f() {}\n}\n"
+        text += "impl By<K> {\n    fn f() {}\n}\n"
+        text += "impl<K> T<K> for Of<u64>\nwhere\n    K: Eq,\n{\n    fn f() {}\n}\n"
+        text += "impl<K> Drop for Of<K> {\n    fn drop() {}\n}\n"
+        text += "impl<'a> c::T<A> for &'a str {\n    fn f() {}\n}\nimpl<X: Eq> T<X> for X {\n    fn f() {}\n}\n"
+        text += "impl From<Soon> for Of {\n    fn f() {}\n}\nimpl From<io::Late> for Of {\n    fn f() {}\n}\n"
+        text += "mod tests {\n    fn f() {}\n}\n"
+        wanted = {
+            "f": ["a::b::f"],
+            "T::f": ["a::b::T::f"],
+            "Of::f": ["a::b::Of::f", "a::b::Of+K+U64::f"],
+            "By::f": ["a::By::f", "a::c::By::f"],
+            "<Of as T>::f": ["a::b::OfT::f", "a::b::OfU64TU64::f"],
+            "Of::drop": ["a::b::Of::drop"],
+            "<str as T>::f": ["a::b::RefStrTA::f"],
+            "<X as T>::f": ["a::b::AnyT::f"],
+            "<Of as From<Soon>>::f": ["a::b::OfFromSoon::f"],
+            "<Of as From<io::Late>>::f": ["a::b::OfFromIoLate::f"],
+            "tests::f": ["a::b::tests::f"],
+        }
+        found = dict(functions(text, "a::b"))
+        self.assertEqual([*found], [*wanted])
+        for name, form in found.items():
+            for other, its in wanted.items():
+                for symbol in its:
+                    with self.subTest(name, symbol=symbol):
+                        self.assertEqual(bool(re.fullmatch(form, symbol)), other == name)
+
+    def test_symbols(self):
+        module = 'define i64 @"a::b::A::f::<#1f>"(ptr %0) {\ndefine void @main() {\n'
+        module += 'define void @"all_tests::c::f"() {\n'
+        module += 'declare void @"a::b::g"()\n  call void @"a::b::h"()\n'
+        self.assertEqual(symbols(module), "a::b::A::f\nmain\nc::f\n")
 
 
 if __name__ == "__main__":
