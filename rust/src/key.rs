@@ -6,6 +6,19 @@ use std::sync::Arc;
 /// Whether a kept key is the one that is sought. It may be asked by any thread that a cache is sent to.
 pub(crate) type Test<'a, K> = &'a (dyn Fn(&K) -> bool + Sync);
 
+#[cfg(test)]
+thread_local! {
+    /// How many keys that are kept this thread has compared: in a cache of one entry, how often it was looked up.
+    pub(crate) static COMPARISONS: std::cell::Cell<u32> = const { std::cell::Cell::new(0) };
+}
+
+/// Counts a comparison with a key that is kept, in tests alone.
+#[inline]
+pub(crate) fn note_comparison() {
+    #[cfg(test)]
+    COMPARISONS.set(COMPARISONS.get() + 1);
+}
+
 /// A key with its hash. The engine keeps each key once. Calls go by a test of the caller's, or by that very key; so the
 /// caller's `Eq` runs only while nothing is half changed. `Sought` equals not even itself, so it is for look-ups alone.
 pub(crate) struct Key<'a, K> {
@@ -84,6 +97,7 @@ impl<K> Clone for Key<'_, K> {
 impl<K> PartialEq for Key<'_, K> {
     #[inline]
     fn eq(&self, other: &Self) -> bool {
+        note_comparison();
         match (&self.form, &other.form) {
             (Form::Kept(one), Form::Kept(other)) => Arc::ptr_eq(one, other),
             (Form::Kept(key), Form::At(at)) | (Form::At(at), Form::Kept(key)) => address(key) == *at,

@@ -21,6 +21,8 @@ mod support;
 
 mod entry;
 mod key;
+#[cfg(test)]
+mod look_ups;
 mod making;
 mod notices;
 pub mod policy;

@@ -16,7 +16,7 @@ use crate::engine::moka_engine::{
 };
 use crate::engine::moka_parts::error::PredicateError;
 use crate::engine::moka_parts::key_test::KeyTest;
-use crate::key::{Carried, Key, Test, address};
+use crate::key::{Carried, Key, Test, address, note_comparison};
 use crate::notices::{Left, Teller};
 use crate::policy::Asked;
 use crate::settings::{Settings, Testing, Tests, Weighing};
@@ -24,7 +24,7 @@ use crate::support::alloc::Global;
 use crate::support::uuid::Uuid;
 use crate::{Entry, RemovalCause, Stats};
 use moka_cache::{CountingListener, NotTold};
-use std::convert::Infallible;
+use std::cell::OnceCell;
 use std::hash::Hash;
 use std::mem;
 use std::sync::Arc;
@@ -73,11 +73,12 @@ struct ByTest<'a, F> {
     is_in_call: &'a AtomicBool,
 }
 
-impl<K: Eq + Hash, F: Fn(&K) -> bool> KeyTest<Key<'static, K>> for ByTest<'_, F> {
+impl<K: Eq + Hash, F: Fn(&Arc<K>) -> bool> KeyTest<Key<'static, K>> for ByTest<'_, F> {
     #[inline]
     fn is_key(&self, key: &Key<'static, K>) -> bool {
+        note_comparison();
         self.is_in_call.store(false, Relaxed);
-        let is_key = key.shared().is_some_and(|kept| (self.test)(kept));
+        let is_key = key.shared().is_some_and(&self.test);
         self.is_in_call.store(true, Relaxed);
         is_key
     }
@@ -298,38 +299,17 @@ impl<K: Eq + Hash + 'static, V> Shard<K, V> {
         self.now.max(clock.now())
     }
 
-    // What is asked of the key that is kept, by a test of the caller's. Nothing changes, so a panic of the test harms
-    // nothing.
+    // The key that is kept, by a test of the caller's. Nothing changes, so a panic of the test harms nothing.
     #[inline]
-    fn look<R>(&self, hash: u64, test: Test<'_, K>, ask: impl FnOnce(&Arc<K>) -> R) -> Option<R> {
+    fn kept(&self, hash: u64, test: Test<'_, K>) -> Option<Arc<K>> {
         let sought = Key::sought(hash, &test);
         let found = self.cache.engine().get_key_with_hash(&sought, hash)?;
-        found.shared().map(ask)
+        found.shared().map(Arc::clone)
     }
 
-    // A look-up by the key that is kept, or by none, which counts as a read.
+    // A clone of a key's value, which counts as a read.
     #[inline]
-    fn get_found(&mut self, key: &Key<'static, K>) -> Option<V>
-    where
-        V: Clone,
-    {
-        let now = self.read_clock();
-        let found = self.change(|cache, clock| cache.get(key, now, clock));
-        self.keep_bound(now);
-        found.ok().flatten()
-    }
-
-    /// A clone of the value of the key that is kept, if one is, which counts as a read.
-    pub fn get_kept(&mut self, hash: u64, key: &Arc<K>) -> Option<V>
-    where
-        V: Clone,
-    {
-        self.get_found(&Key::at(hash, address(key)))
-    }
-
-    /// A clone of a key's value, which counts as a read.
-    #[inline]
-    pub fn get(&mut self, hash: u64, test: impl Fn(&K) -> bool) -> Option<V>
+    fn get_by(&mut self, hash: u64, test: impl Fn(&Arc<K>) -> bool) -> Option<V>
     where
         V: Clone,
     {
@@ -339,14 +319,41 @@ impl<K: Eq + Hash + 'static, V> Shard<K, V> {
         found.ok().flatten()
     }
 
-    /// The same with the key that is kept.
-    pub fn get_entry(&mut self, hash: u64, test: Test<'_, K>) -> Option<(Arc<K>, V)>
+    /// A clone of a key's value, which counts as a read.
+    #[inline]
+    pub fn get(&mut self, hash: u64, test: impl Fn(&K) -> bool) -> Option<V>
     where
         V: Clone,
     {
-        let kept = self.look(hash, test, Arc::clone);
-        let value = self.get_found(&Key::at(hash, kept.as_ref().map_or(0, address)))?;
-        Some((kept?, value))
+        self.get_by(hash, |kept: &Arc<K>| test(kept))
+    }
+
+    /// The same beside the key that is kept, if one is, whether its value is visible or not.
+    #[inline]
+    pub fn seek(&mut self, hash: u64, test: impl Fn(&K) -> bool) -> (Option<Arc<K>>, Option<V>)
+    where
+        V: Clone,
+    {
+        // The look-up hands out no key, so that which passes is noted. The value is that of the first.
+        let passed = OnceCell::new();
+        let value = self.get_by(hash, |kept: &Arc<K>| {
+            let is_key = test(kept);
+            if is_key {
+                passed.get_or_init(|| Arc::clone(kept));
+            }
+            is_key
+        });
+        (passed.into_inner(), value)
+    }
+
+    /// A clone of a key's value with the key that is kept, which counts as a read.
+    #[inline]
+    pub fn get_entry(&mut self, hash: u64, test: impl Fn(&K) -> bool) -> Option<(Arc<K>, V)>
+    where
+        V: Clone,
+    {
+        let (kept, value) = self.seek(hash, test);
+        Some((kept?, value?))
     }
 
     /// A clone of a key's value with the key that is kept; nothing is recorded.
@@ -354,19 +361,13 @@ impl<K: Eq + Hash + 'static, V> Shard<K, V> {
     where
         V: Clone,
     {
-        let key = self.look(hash, test, Arc::clone)?;
+        let key = self.kept(hash, test)?;
         let value = self.scan(hash, &key)?;
         Some((key, value))
     }
 
     pub fn contains(&self, hash: u64, test: Test<'_, K>) -> bool {
         self.cache.contains_key(&Key::sought(hash, &test), self.glance())
-    }
-
-    /// The key that is kept.
-    #[inline]
-    pub fn kept(&self, hash: u64, test: Test<'_, K>) -> Option<Arc<K>> {
-        self.look(hash, test, Arc::clone)
     }
 
     // A value for which memory was refused leaves at once.
@@ -418,34 +419,21 @@ impl<K: Eq + Hash + 'static, V> Shard<K, V> {
         self.change(|cache, clock| cache.run_pending_tasks(now, clock));
     }
 
-    /// The entry of a key, the one that is kept if one is, whose value is made if there is none. A maker that panics
+    /// The entry of a key, the one that is kept if one is, with a value that is made and put there. A maker that panics
     /// has changed nothing.
-    pub fn try_get_with<E>(
+    pub fn put_made<E>(
         &mut self,
         hash: u64,
         key: Arc<K>,
+        is_replaced: bool,
         init: impl FnOnce() -> Result<V, E>,
     ) -> Result<Entry<K, V>, E>
     where
         V: Clone,
     {
-        if let Some(value) = self.get_kept(hash, &key) {
-            return Ok(Entry::found(key, value));
-        }
         let value = self.make(init)?;
         self.insert_kept(hash, Arc::clone(&key), value.clone());
-        Ok(Entry::put(key, value, false))
-    }
-
-    /// The entry of a key that is kept, whose value is read, and replaced by one that is made.
-    pub fn replace_with(&mut self, hash: u64, key: Arc<K>, init: impl FnOnce() -> V) -> Entry<K, V>
-    where
-        V: Clone,
-    {
-        self.get_kept(hash, &key);
-        let Ok(value) = self.make(|| Ok::<_, Infallible>(init()));
-        self.insert_kept(hash, Arc::clone(&key), value.clone());
-        Entry::put(key, value, true)
+        Ok(Entry::put(key, value, is_replaced))
     }
 
     // Makes a value. The load has failed until it has not.
@@ -463,6 +451,7 @@ impl<K: Eq + Hash + 'static, V> Shard<K, V> {
         V: Clone,
     {
         let now = self.read_clock();
+        let test = |kept: &Arc<K>| test(kept);
         let removed = self.change_by(test, |cache, by, clock| cache.remove_by(by, hash, now, clock));
         self.keep_bound(now);
         removed.unwrap_or_else(|NotTold { value, .. }| Some(value))

@@ -11,7 +11,7 @@
 mod entry;
 mod iter;
 
-pub use entry::EntrySelector;
+pub use entry::{EntrySelector, RefKeyEntrySelector};
 pub use iter::Iter;
 
 use crate::key::Test;
@@ -322,16 +322,6 @@ impl<K: Eq + Hash + Sync + 'static, V: Clone + 'static, S: BuildHasher> Cache<K,
         self.with(|shard| shard.insert(hash, Arc::new(key), value));
     }
 
-    // The key that is kept, if one is.
-    fn kept<Q>(&mut self, hash: u64, key: &Q) -> Option<Arc<K>>
-    where
-        K: Borrow<Q>,
-        Q: Eq + Hash + Sync + ?Sized,
-    {
-        self.shard.recover();
-        self.shard.kept(hash, &|kept| kept.borrow() == key)
-    }
-
     /// A clone of a key's value, which is made and put there if it is missing. A maker that panics has changed nothing.
     ///
     /// ```
@@ -432,7 +422,6 @@ impl<K: Eq + Hash + Sync + 'static, V: Clone + 'static, S: BuildHasher> Cache<K,
     /// ```
     pub fn entry(&mut self, key: K) -> EntrySelector<'_, K, V, S> {
         let hash = self.hasher.hash_one(&key);
-        let key = self.kept(hash, &key).unwrap_or_else(|| Arc::new(key));
         EntrySelector::new(self, hash, key)
     }
 
@@ -443,14 +432,13 @@ impl<K: Eq + Hash + Sync + 'static, V: Clone + 'static, S: BuildHasher> Cache<K,
     /// assert_eq!(cache.entry_by_ref("key").or_insert(7).into_value(), 7);
     /// assert_eq!(cache.get("key"), Some(7));
     /// ```
-    pub fn entry_by_ref<Q>(&mut self, key: &Q) -> EntrySelector<'_, K, V, S>
+    pub fn entry_by_ref<'a, Q>(&'a mut self, key: &'a Q) -> RefKeyEntrySelector<'a, K, Q, V, S>
     where
         K: Borrow<Q>,
         Q: Eq + Hash + Sync + ToOwned<Owned = K> + ?Sized,
     {
         let hash = self.hasher.hash_one(key);
-        let key = self.kept(hash, key).unwrap_or_else(|| Arc::new(key.to_owned()));
-        EntrySelector::new(self, hash, key)
+        RefKeyEntrySelector::new(self, hash, key)
     }
 
     /// Takes a key's value out and hands it out, also one that has expired or was invalidated and has not left yet.

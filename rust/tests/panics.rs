@@ -192,6 +192,7 @@ fn a_comparison_or_hash_that_panics_changes_nothing() {
     for key in [13, 14] {
         assert!(panics(|| cache.get(&Moody(key))));
         assert!(panics(|| cache.insert(Moody(key), key)));
+        assert!(panics(|| cache.entry(Moody(key)).or_insert(key)));
         assert!(panics(|| cache.remove(&Moody(key))));
     }
     for key in 0..10 {

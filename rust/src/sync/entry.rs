@@ -112,7 +112,7 @@ where
         // They end after the making, as those of a load.
         let mut calls = self.0.places.calls(place);
         place.makers.alone(hash, Arc::clone(&key), || {
-            let there = calls.make(|shard| shard.get_entry(hash, &|kept| *kept == *key));
+            let there = calls.make(|shard| shard.get_entry(hash, |kept| *kept == *key));
             let there = there.map(|(key, value)| Entry::found(key, value));
             let op = decide(there.clone())?;
             Ok(computed(Arc::clone(&key), op, there, |value| match value {
@@ -316,7 +316,7 @@ where
         let place = self.cache.place(self.hash);
         let key = &self.key;
         self.cache
-            .with(place, |shard| shard.get_entry(self.hash, &|kept| kept == key))
+            .with(place, |shard| shard.get_entry(self.hash, |kept| kept == key))
     }
 
     fn into_shared(self) -> Arc<K> {
@@ -337,7 +337,7 @@ where
         let place = self.cache.place(self.hash);
         let key = self.key;
         self.cache
-            .with(place, |shard| shard.get_entry(self.hash, &|kept| kept.borrow() == key))
+            .with(place, |shard| shard.get_entry(self.hash, |kept| kept.borrow() == key))
     }
 
     fn into_shared(self) -> Arc<K> {

@@ -3,6 +3,8 @@
 use super::Cache;
 use crate::Entry;
 use crate::entry::{CompResult, Op, computed};
+use crate::shard::Shard;
+use std::borrow::Borrow;
 use std::convert::Infallible;
 use std::fmt;
 use std::hash::{BuildHasher, Hash};
@@ -13,8 +15,15 @@ use std::sync::Arc;
 pub struct EntrySelector<'a, K: 'static, V, S> {
     cache: &'a mut Cache<K, V, S>,
     hash: u64,
-    // The key that is kept, if one is.
-    key: Arc<K>,
+    key: K,
+}
+
+/// A borrowed form of a key of a cache, and what is to be done with its entry: see [`Cache::entry_by_ref`].
+#[must_use = "a selector does nothing until one of its calls is made"]
+pub struct RefKeyEntrySelector<'a, K: 'static, Q: ?Sized, V, S> {
+    cache: &'a mut Cache<K, V, S>,
+    hash: u64,
+    key: &'a Q,
 }
 
 impl<K: fmt::Debug, V, S> fmt::Debug for EntrySelector<'_, K, V, S> {
@@ -24,155 +33,205 @@ impl<K: fmt::Debug, V, S> fmt::Debug for EntrySelector<'_, K, V, S> {
     }
 }
 
+impl<K, Q: fmt::Debug + ?Sized, V, S> fmt::Debug for RefKeyEntrySelector<'_, K, Q, V, S> {
+    fn fmt(&self, f: &mut fmt::Formatter<'_>) -> fmt::Result {
+        let mut shown = f.debug_struct("RefKeyEntrySelector");
+        shown.field("key", &self.key).finish_non_exhaustive()
+    }
+}
+
+/// The calls that both selectors have.
+macro_rules! calls {
+    () => {
+        /// The key's entry; if there is none, this value is put there.
+        ///
+        /// ```
+        /// let mut cache = ravulemis::unsync::Cache::new(100);
+        /// assert_eq!(cache.entry(1).or_insert('a').into_value(), 'a');
+        /// ```
+        pub fn or_insert(self, default: V) -> Entry<K, V> {
+            self.or_insert_with(|| default)
+        }
+
+        /// The key's entry; if there is none, the default value is put there.
+        ///
+        /// ```
+        /// let mut cache = ravulemis::unsync::Cache::<u32, u32>::new(100);
+        /// assert_eq!(cache.entry(1).or_default().into_value(), 0);
+        /// ```
+        pub fn or_default(self) -> Entry<K, V>
+        where
+            V: Default,
+        {
+            self.or_insert_with(V::default)
+        }
+
+        /// The key's entry; if there is none, a value is made and put there.
+        ///
+        /// ```
+        /// let mut cache = ravulemis::unsync::Cache::new(100);
+        /// assert!(cache.entry(1).or_insert_with(|| 'a').is_fresh());
+        /// assert!(!cache.entry(1).or_insert_with(|| 'b').is_fresh());
+        /// ```
+        pub fn or_insert_with(self, init: impl FnOnce() -> V) -> Entry<K, V> {
+            let Ok(entry) = self.or_try_insert_with(|| Ok::<_, Infallible>(init()));
+            entry
+        }
+
+        /// The key's entry; if there is none, or the test says that its value is to be replaced, one is made and put
+        /// there.
+        ///
+        /// ```
+        /// let mut cache = ravulemis::unsync::Cache::new(100);
+        /// cache.insert(1, 'a');
+        /// let entry = cache.entry(1).or_insert_with_if(|| 'b', |old| *old == 'a');
+        /// assert!(entry.is_old_value_replaced());
+        /// ```
+        pub fn or_insert_with_if(
+            self,
+            init: impl FnOnce() -> V,
+            mut replace_if: impl FnMut(&V) -> bool,
+        ) -> Entry<K, V> {
+            let Self { cache, hash, key } = self;
+            cache.with(|shard| {
+                let (key, there) = Self::look(shard, hash, key);
+                let is_replaced = match there {
+                    Some(value) if !replace_if(&value) => return Entry::found(key, value),
+                    there => there.is_some(),
+                };
+                let Ok(entry) = shard.put_made(hash, key, is_replaced, || Ok::<_, Infallible>(init()));
+                entry
+            })
+        }
+
+        /// The key's entry; if there is none, a value is made and put there, or `None` is answered if the maker gives
+        /// none.
+        ///
+        /// ```
+        /// let mut cache = ravulemis::unsync::Cache::new(100);
+        /// assert!(cache.entry(1).or_optionally_insert_with(|| None).is_none());
+        /// assert!(cache.entry(1).or_optionally_insert_with(|| Some('a')).is_some());
+        /// ```
+        pub fn or_optionally_insert_with(self, init: impl FnOnce() -> Option<V>) -> Option<Entry<K, V>> {
+            self.or_try_insert_with(|| init().ok_or(())).ok()
+        }
+
+        /// The key's entry; if there is none, a value is made and put there.
+        ///
+        /// # Errors
+        /// The maker's: then nothing is put there.
+        ///
+        /// ```
+        /// let mut cache = ravulemis::unsync::Cache::<u32, u32>::new(100);
+        /// assert!(cache.entry(1).or_try_insert_with(|| "one".parse::<u32>()).is_err());
+        /// assert!(cache.entry(1).or_try_insert_with(|| "1".parse::<u32>()).is_ok());
+        /// ```
+        pub fn or_try_insert_with<F, E>(self, init: F) -> Result<Entry<K, V>, E>
+        where
+            F: FnOnce() -> Result<V, E>,
+        {
+            let Self { cache, hash, key } = self;
+            cache.with(|shard| match Self::look(shard, hash, key) {
+                (key, Some(value)) => Ok(Entry::found(key, value)),
+                (key, None) => shard.put_made(hash, key, false, init),
+            })
+        }
+
+        /// Puts the value that the closure makes of the entry, or of `None` if there is none.
+        ///
+        /// ```
+        /// let mut cache = ravulemis::unsync::Cache::new(100);
+        /// for _ in 0..3 {
+        ///     cache.entry("key").and_upsert_with(|old| old.map_or(1, |old| old.into_value() + 1));
+        /// }
+        /// assert_eq!(cache.get("key"), Some(3));
+        /// ```
+        pub fn and_upsert_with(self, f: impl FnOnce(Option<Entry<K, V>>) -> V) -> Entry<K, V> {
+            let answer = self.and_compute_with(|there| Op::Put(f(there)));
+            let entry = answer.into_entry();
+            entry.unwrap_or_else(|| unreachable!("an entry was put there"))
+        }
+
+        /// Puts a value, removes the entry or leaves it, as the closure answers of what is there.
+        ///
+        /// ```
+        /// use ravulemis::ops::compute::{CompResult, Op};
+        /// let mut cache = ravulemis::unsync::Cache::new(100);
+        /// let answer = cache.entry(1).and_compute_with(|there| match there {
+        ///     Some(_) => Op::Remove,
+        ///     None => Op::Put('a'),
+        /// });
+        /// assert!(matches!(answer, CompResult::Inserted(_)));
+        /// ```
+        pub fn and_compute_with(self, f: impl FnOnce(Option<Entry<K, V>>) -> Op<V>) -> CompResult<K, V> {
+            let Ok(answer) = self.and_try_compute_with(|there| Ok::<_, Infallible>(f(there)));
+            answer
+        }
+
+        /// As [`and_compute_with`](Self::and_compute_with), by a closure that may fail: then nothing is done.
+        ///
+        /// # Errors
+        /// The closure's.
+        ///
+        /// ```
+        /// use ravulemis::ops::compute::Op;
+        /// let mut cache = ravulemis::unsync::Cache::<u32, u32>::new(100);
+        /// let answer = cache.entry(1).and_try_compute_with(|_| "one".parse().map(Op::Put));
+        /// assert!(answer.is_err());
+        /// assert!(!cache.contains_key(&1));
+        /// ```
+        pub fn and_try_compute_with<F, E>(self, f: F) -> Result<CompResult<K, V>, E>
+        where
+            F: FnOnce(Option<Entry<K, V>>) -> Result<Op<V>, E>,
+        {
+            let Self { cache, hash, key } = self;
+            let (key, there) = cache.with(|shard| Self::look(shard, hash, key));
+            let there = there.map(|value| Entry::found(Arc::clone(&key), value));
+            let op = f(there.clone())?;
+            let kept = Arc::clone(&key);
+            Ok(computed(key, op, there, |value| {
+                cache.with(|shard| match value {
+                    Some(value) => {
+                        shard.insert_kept(hash, kept, value);
+                        None
+                    }
+                    None => shard.remove_kept(hash, &kept),
+                })
+            }))
+        }
+    };
+}
+
 impl<'a, K: Eq + Hash + Sync + 'static, V: Clone + 'static, S: BuildHasher> EntrySelector<'a, K, V, S> {
-    pub(super) fn new(cache: &'a mut Cache<K, V, S>, hash: u64, key: Arc<K>) -> Self {
+    pub(super) fn new(cache: &'a mut Cache<K, V, S>, hash: u64, key: K) -> Self {
         EntrySelector { cache, hash, key }
     }
 
-    fn peek(&self) -> Option<V> {
-        self.cache.shard.scan(self.hash, &self.key)
+    // The key, the one that is kept if one is, with its value if that is visible, which counts as a read.
+    fn look(shard: &mut Shard<K, V>, hash: u64, key: K) -> (Arc<K>, Option<V>) {
+        let (kept, value) = shard.seek(hash, |kept| *kept == key);
+        (kept.unwrap_or_else(|| Arc::new(key)), value)
     }
 
-    /// The key's entry; if there is none, this value is put there.
-    ///
-    /// ```
-    /// let mut cache = ravulemis::unsync::Cache::new(100);
-    /// assert_eq!(cache.entry(1).or_insert('a').into_value(), 'a');
-    /// ```
-    pub fn or_insert(self, default: V) -> Entry<K, V> {
-        self.or_insert_with(|| default)
+    calls!();
+}
+
+impl<'a, K, Q, V, S> RefKeyEntrySelector<'a, K, Q, V, S>
+where
+    K: Eq + Hash + Borrow<Q> + Sync + 'static,
+    Q: Eq + Hash + Sync + ToOwned<Owned = K> + ?Sized,
+    V: Clone + 'static,
+    S: BuildHasher,
+{
+    pub(super) fn new(cache: &'a mut Cache<K, V, S>, hash: u64, key: &'a Q) -> Self {
+        RefKeyEntrySelector { cache, hash, key }
     }
 
-    /// The key's entry; if there is none, the default value is put there.
-    ///
-    /// ```
-    /// let mut cache = ravulemis::unsync::Cache::<u32, u32>::new(100);
-    /// assert_eq!(cache.entry(1).or_default().into_value(), 0);
-    /// ```
-    pub fn or_default(self) -> Entry<K, V>
-    where
-        V: Default,
-    {
-        self.or_insert_with(V::default)
+    // The same. An owned key is made if none is kept.
+    fn look(shard: &mut Shard<K, V>, hash: u64, key: &Q) -> (Arc<K>, Option<V>) {
+        let (kept, value) = shard.seek(hash, |kept| kept.borrow() == key);
+        (kept.unwrap_or_else(|| Arc::new(key.to_owned())), value)
     }
 
-    /// The key's entry; if there is none, a value is made and put there.
-    ///
-    /// ```
-    /// let mut cache = ravulemis::unsync::Cache::new(100);
-    /// assert!(cache.entry(1).or_insert_with(|| 'a').is_fresh());
-    /// assert!(!cache.entry(1).or_insert_with(|| 'b').is_fresh());
-    /// ```
-    pub fn or_insert_with(self, init: impl FnOnce() -> V) -> Entry<K, V> {
-        let Ok(entry) = self.or_try_insert_with(|| Ok::<_, Infallible>(init()));
-        entry
-    }
-
-    /// The key's entry; if there is none, or the test says that its value is to be replaced, one is made and put there.
-    ///
-    /// ```
-    /// let mut cache = ravulemis::unsync::Cache::new(100);
-    /// cache.insert(1, 'a');
-    /// let entry = cache.entry(1).or_insert_with_if(|| 'b', |old| *old == 'a');
-    /// assert!(entry.is_old_value_replaced());
-    /// ```
-    pub fn or_insert_with_if(self, init: impl FnOnce() -> V, mut replace_if: impl FnMut(&V) -> bool) -> Entry<K, V> {
-        if !self.peek().is_some_and(|old| replace_if(&old)) {
-            return self.or_insert_with(init);
-        }
-        let EntrySelector { cache, hash, key } = self;
-        cache.with(|shard| shard.replace_with(hash, key, init))
-    }
-
-    /// The key's entry; if there is none, a value is made and put there, or `None` is answered if the maker gives none.
-    ///
-    /// ```
-    /// let mut cache = ravulemis::unsync::Cache::new(100);
-    /// assert!(cache.entry(1).or_optionally_insert_with(|| None).is_none());
-    /// assert!(cache.entry(1).or_optionally_insert_with(|| Some('a')).is_some());
-    /// ```
-    pub fn or_optionally_insert_with(self, init: impl FnOnce() -> Option<V>) -> Option<Entry<K, V>> {
-        self.or_try_insert_with(|| init().ok_or(())).ok()
-    }
-
-    /// The key's entry; if there is none, a value is made and put there.
-    ///
-    /// # Errors
-    /// The maker's: then nothing is put there.
-    ///
-    /// ```
-    /// let mut cache = ravulemis::unsync::Cache::<u32, u32>::new(100);
-    /// assert!(cache.entry(1).or_try_insert_with(|| "one".parse::<u32>()).is_err());
-    /// assert!(cache.entry(1).or_try_insert_with(|| "1".parse::<u32>()).is_ok());
-    /// ```
-    pub fn or_try_insert_with<F, E>(self, init: F) -> Result<Entry<K, V>, E>
-    where
-        F: FnOnce() -> Result<V, E>,
-    {
-        let EntrySelector { cache, hash, key } = self;
-        cache.with(|shard| shard.try_get_with(hash, key, init))
-    }
-
-    /// Puts the value that the closure makes of the entry, or of `None` if there is none.
-    ///
-    /// ```
-    /// let mut cache = ravulemis::unsync::Cache::new(100);
-    /// for _ in 0..3 {
-    ///     cache.entry("key").and_upsert_with(|old| old.map_or(1, |old| old.into_value() + 1));
-    /// }
-    /// assert_eq!(cache.get("key"), Some(3));
-    /// ```
-    pub fn and_upsert_with(self, f: impl FnOnce(Option<Entry<K, V>>) -> V) -> Entry<K, V> {
-        let answer = self.and_compute_with(|there| Op::Put(f(there)));
-        let entry = answer.into_entry();
-        entry.unwrap_or_else(|| unreachable!("an entry was put there"))
-    }
-
-    /// Puts a value, removes the entry or leaves it, as the closure answers of what is there.
-    ///
-    /// ```
-    /// use ravulemis::ops::compute::{CompResult, Op};
-    /// let mut cache = ravulemis::unsync::Cache::new(100);
-    /// let answer = cache.entry(1).and_compute_with(|there| match there {
-    ///     Some(_) => Op::Remove,
-    ///     None => Op::Put('a'),
-    /// });
-    /// assert!(matches!(answer, CompResult::Inserted(_)));
-    /// ```
-    pub fn and_compute_with(self, f: impl FnOnce(Option<Entry<K, V>>) -> Op<V>) -> CompResult<K, V> {
-        let Ok(answer) = self.and_try_compute_with(|there| Ok::<_, Infallible>(f(there)));
-        answer
-    }
-
-    /// As [`and_compute_with`](Self::and_compute_with), by a closure that may fail: then nothing is done.
-    ///
-    /// # Errors
-    /// The closure's.
-    ///
-    /// ```
-    /// use ravulemis::ops::compute::Op;
-    /// let mut cache = ravulemis::unsync::Cache::<u32, u32>::new(100);
-    /// let answer = cache.entry(1).and_try_compute_with(|_| "one".parse().map(Op::Put));
-    /// assert!(answer.is_err());
-    /// assert!(!cache.contains_key(&1));
-    /// ```
-    pub fn and_try_compute_with<F, E>(self, f: F) -> Result<CompResult<K, V>, E>
-    where
-        F: FnOnce(Option<Entry<K, V>>) -> Result<Op<V>, E>,
-    {
-        let EntrySelector { cache, hash, key } = self;
-        let there = cache.with(|shard| shard.get_kept(hash, &key));
-        let there = there.map(|value| Entry::found(Arc::clone(&key), value));
-        let op = f(there.clone())?;
-        let kept = Arc::clone(&key);
-        Ok(computed(key, op, there, |value| {
-            cache.with(|shard| match value {
-                Some(value) => {
-                    shard.insert_kept(hash, kept, value);
-                    None
-                }
-                None => shard.remove_kept(hash, &kept),
-            })
-        }))
-    }
+    calls!();
 }
