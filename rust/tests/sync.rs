@@ -111,6 +111,32 @@ fn the_builder_chooses_the_shards() {
 }
 
 #[test]
+fn an_idle_entry_is_hidden_and_leaves_as_expired() {
+    // So long that a machine with other work lets none expire between two calls.
+    let idle = Duration::from_secs(2);
+    let (sender, left) = mpsc::channel();
+    let listener = move |key: Arc<u32>, value, cause| sender.send((*key, value, cause)).unwrap();
+    let cache = Cache::builder().time_to_idle(idle).eviction_listener(listener).build();
+    cache.insert(1, 'a');
+    cache.insert(2, 'b');
+    for _ in 0..4 {
+        thread::sleep(Duration::from_millis(600));
+        assert_eq!(cache.get(&1), Some('a'), "each read keeps it");
+    }
+    assert_eq!((cache.contains_key(&2), cache.get(&2)), (false, None));
+    assert_eq!(cache.iter().collect::<Vec<_>>(), [(Arc::new(1), 'a')]);
+    cache.run_pending_tasks();
+    assert_eq!(left.try_iter().collect::<Vec<_>>(), [(2, 'b', RemovalCause::Expired)]);
+    thread::sleep(idle / 2);
+    assert!(cache.contains_key(&1), "which is no read");
+    thread::sleep(idle / 2 + Duration::from_millis(100));
+    assert!(!cache.contains_key(&1));
+    cache.run_pending_tasks();
+    assert_eq!(left.try_iter().collect::<Vec<_>>(), [(1, 'a', RemovalCause::Expired)]);
+    assert_eq!((cache.entry_count(), cache.stats().expired), (0, 2));
+}
+
+#[test]
 fn one_makes_for_all_that_wait() {
     let (cache, made, start) = (Cache::new(100), AtomicU32::new(0), Barrier::new(8));
     thread::scope(|scope| {
