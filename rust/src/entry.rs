@@ -12,6 +12,14 @@ pub struct Entry<K, V> {
 }
 
 impl<K, V: Clone> Clone for Entry<K, V> {
+    /// An entry of the same key, which is shared, and of a clone of the value.
+    ///
+    /// ```
+    /// let cache = ravulemis::sync::Cache::new(100);
+    /// let entry = cache.entry("key").or_insert(7);
+    /// let copy = entry.clone();
+    /// assert_eq!(copy.into_value(), entry.into_value());
+    /// ```
     fn clone(&self) -> Self {
         Entry {
             key: Arc::clone(&self.key),

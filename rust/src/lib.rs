@@ -40,6 +40,13 @@ pub mod unsync;
 /// assert!(!RemovalCause::Explicit.was_evicted() && !RemovalCause::Replaced.was_evicted());
 /// ```
 pub use engine::moka_engine::RemovalCause;
+/// ```
+/// use ravulemis::{PredicateError, sync::Cache};
+///
+/// let cache: Cache<u32, u32> = Cache::new(100);
+/// let refused = cache.invalidate_entries_if(|key, _| key % 2 == 0);
+/// assert_eq!(refused, Err(PredicateError::InvalidationClosuresDisabled));
+/// ```
 pub use engine::moka_parts::error::PredicateError;
 pub use entry::Entry;
 pub use policy::{EvictionPolicy, Expiry, Policy, Stats};

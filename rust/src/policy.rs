@@ -46,13 +46,57 @@ use std::time::{Duration, Instant};
 /// assert_eq!(cache.get(&2), None);
 /// ```
 pub trait Expiry<K, V> {
-    /// Asked when an entry is created.
+    /// Asked when an entry is created. The default is always.
+    ///
+    /// ```
+    /// use ravulemis::{Expiry, sync::Cache};
+    /// use std::time::{Duration, Instant};
+    ///
+    /// struct Hours;
+    ///
+    /// impl Expiry<u32, u64> for Hours {
+    ///     fn expire_after_create(&self, _: &u32, hours: &u64, _: Instant) -> Option<Duration> {
+    ///         Some(Duration::from_secs(hours * 3600))
+    ///     }
+    /// }
+    ///
+    /// let cache = Cache::builder().expire_after(Hours).build();
+    /// cache.insert(1, 24);
+    /// cache.insert(2, 0);
+    /// assert_eq!((cache.get(&1), cache.get(&2)), (Some(24), None));
+    /// ```
     #[allow(unused_variables)]
     fn expire_after_create(&self, key: &K, value: &V, created_at: Instant) -> Option<Duration> {
         None
     }
 
     /// Asked when an entry is read; `duration_until_expiry` is what it has left, and the default answer.
+    ///
+    /// ```
+    /// use ravulemis::{Expiry, sync::Cache};
+    /// use std::time::{Duration, Instant};
+    ///
+    /// /// Entries that are handed out once.
+    /// struct Once;
+    ///
+    /// impl Expiry<u32, char> for Once {
+    ///     fn expire_after_read(
+    ///         &self,
+    ///         _: &u32,
+    ///         _: &char,
+    ///         _: Instant,
+    ///         left: Option<Duration>,
+    ///         _: Instant,
+    ///     ) -> Option<Duration> {
+    ///         assert_eq!(left, None);
+    ///         Some(Duration::ZERO)
+    ///     }
+    /// }
+    ///
+    /// let cache = Cache::builder().expire_after(Once).build();
+    /// cache.insert(1, 'a');
+    /// assert_eq!((cache.get(&1), cache.get(&1)), (Some('a'), None));
+    /// ```
     #[allow(unused_variables)]
     fn expire_after_read(
         &self,
@@ -66,6 +110,33 @@ pub trait Expiry<K, V> {
     }
 
     /// Asked when a value is replaced; `duration_until_expiry` is what the entry has left, and the default answer.
+    ///
+    /// ```
+    /// use ravulemis::{Expiry, sync::Cache};
+    /// use std::time::{Duration, Instant};
+    ///
+    /// /// Entries that expire when they are marked with an `x`.
+    /// struct Marked;
+    ///
+    /// impl Expiry<u32, char> for Marked {
+    ///     fn expire_after_update(
+    ///         &self,
+    ///         _: &u32,
+    ///         value: &char,
+    ///         _: Instant,
+    ///         left: Option<Duration>,
+    ///     ) -> Option<Duration> {
+    ///         if *value == 'x' { Some(Duration::ZERO) } else { left }
+    ///     }
+    /// }
+    ///
+    /// let cache = Cache::builder().expire_after(Marked).build();
+    /// cache.insert(1, 'a');
+    /// cache.insert(1, 'b');
+    /// assert_eq!(cache.get(&1), Some('b'));
+    /// cache.insert(1, 'x');
+    /// assert_eq!(cache.get(&1), None);
+    /// ```
     #[allow(unused_variables)]
     fn expire_after_update(
         &self,

@@ -101,13 +101,13 @@ impl<K, V> engine::PredicateFn<crate::key::Key<'_, K>, V> for Testing<K, V> {
     }
 }
 
-/// The setters that both builders have.
+/// The setters that both builders have. Their examples are of the builder's module, with a cache that is bound so.
 macro_rules! setters {
-    () => {
+    ($module:literal, $cache:literal) => {
         /// A name for diagnostics; `name` of the cache returns it. By default there is none.
         ///
         /// ```
-        /// use ravulemis::sync::Cache;
+        #[doc = concat!("use ravulemis::", $module, "::Cache;")]
         /// let cache: Cache<u32, u32> = Cache::builder().name("users").build();
         /// assert_eq!(cache.name(), Some("users"));
         /// ```
@@ -120,8 +120,8 @@ macro_rules! setters {
         /// nothing. By default there is no bound.
         ///
         /// ```
-        /// use ravulemis::sync::Cache;
-        /// let cache = Cache::builder().max_capacity(2).build();
+        #[doc = concat!("use ravulemis::", $module, "::Cache;")]
+        #[doc = concat!("let ", $cache, " = Cache::builder().max_capacity(2).build();")]
         /// (0..10).for_each(|key| cache.insert(key, key));
         /// cache.run_pending_tasks();
         /// assert_eq!(cache.entry_count(), 2);
@@ -134,8 +134,8 @@ macro_rules! setters {
         /// The number of entries that room is made for at once, whatever their weights. It bounds nothing.
         ///
         /// ```
-        /// use ravulemis::sync::Cache;
-        /// let cache = Cache::builder().max_capacity(10_000).initial_capacity(1000).build();
+        #[doc = concat!("use ravulemis::", $module, "::Cache;")]
+        #[doc = concat!("let ", $cache, " = Cache::builder().max_capacity(10_000).initial_capacity(1000).build();")]
         /// cache.insert(1, 'a');
         /// ```
         pub fn initial_capacity(mut self, number_of_entries: usize) -> Self {
@@ -146,10 +146,11 @@ macro_rules! setters {
         /// How a cache that is full chooses what stays. By default it is TinyLFU.
         ///
         /// ```
-        /// use ravulemis::sync::Cache;
+        #[doc = concat!("use ravulemis::", $module, "::Cache;")]
         /// use ravulemis::policy::EvictionPolicy;
         ///
-        /// let cache = Cache::builder().max_capacity(2).eviction_policy(EvictionPolicy::lru()).build();
+        /// let builder = Cache::builder().max_capacity(2).eviction_policy(EvictionPolicy::lru());
+        #[doc = concat!("let ", $cache, " = builder.build();")]
         /// (0..10).for_each(|key| cache.insert(key, key));
         /// cache.run_pending_tasks();
         /// assert_eq!((cache.get(&8), cache.get(&9)), (Some(8), Some(9)));
@@ -162,10 +163,10 @@ macro_rules! setters {
         /// How long an entry stays after it was written, exact to the nanosecond. By default it stays.
         ///
         /// ```
-        /// use ravulemis::sync::Cache;
+        #[doc = concat!("use ravulemis::", $module, "::Cache;")]
         /// use std::time::Duration;
         ///
-        /// let cache = Cache::builder().time_to_live(Duration::from_millis(1)).build();
+        #[doc = concat!("let ", $cache, " = Cache::builder().time_to_live(Duration::from_millis(1)).build();")]
         /// cache.insert(1, 'a');
         /// std::thread::sleep(Duration::from_millis(2));
         /// assert_eq!(cache.get(&1), None);
@@ -178,10 +179,10 @@ macro_rules! setters {
         /// How long an entry stays after it was written or read, exact to the nanosecond. By default it stays.
         ///
         /// ```
-        /// use ravulemis::sync::Cache;
+        #[doc = concat!("use ravulemis::", $module, "::Cache;")]
         /// use std::time::Duration;
         ///
-        /// let cache = Cache::builder().time_to_idle(Duration::from_millis(1)).build();
+        #[doc = concat!("let ", $cache, " = Cache::builder().time_to_idle(Duration::from_millis(1)).build();")]
         /// cache.insert(1, 'a');
         /// std::thread::sleep(Duration::from_millis(2));
         /// assert_eq!(cache.get(&1), None);
@@ -194,7 +195,7 @@ macro_rules! setters {
         /// Decides when each entry expires. By default none does by itself.
         ///
         /// ```
-        /// use ravulemis::sync::Cache;
+        #[doc = concat!("use ravulemis::", $module, "::Cache;")]
         /// use std::time::{Duration, Instant};
         ///
         /// struct Seconds;
@@ -205,7 +206,7 @@ macro_rules! setters {
         ///     }
         /// }
         ///
-        /// let cache = Cache::builder().expire_after(Seconds).build();
+        #[doc = concat!("let ", $cache, " = Cache::builder().expire_after(Seconds).build();")]
         /// cache.insert(1, 60);
         /// cache.insert(2, 0);
         /// assert_eq!((cache.get(&1), cache.get(&2)), (Some(60), None));
@@ -220,9 +221,9 @@ macro_rules! setters {
         /// a value that is kept, all others of its shard leave before it. By default each weighs 1.
         ///
         /// ```
-        /// use ravulemis::sync::Cache;
+        #[doc = concat!("use ravulemis::", $module, "::Cache;")]
         /// let weigher = |_: &u32, text: &String| text.len().try_into().unwrap_or(u32::MAX);
-        /// let cache = Cache::builder().max_capacity(10).weigher(weigher).build();
+        #[doc = concat!("let ", $cache, " = Cache::builder().max_capacity(10).weigher(weigher).build();")]
         /// cache.insert(1, "four".to_string());
         /// cache.run_pending_tasks();
         /// assert_eq!(cache.weighted_size(), 4);
@@ -235,10 +236,11 @@ macro_rules! setters {
         /// Lets `invalidate_entries_if` take predicates. By default it refuses each.
         ///
         /// ```
-        /// use ravulemis::sync::Cache;
-        /// let cache: Cache<u32, u32> = Cache::builder().support_invalidation_closures().build();
+        #[doc = concat!("use ravulemis::", $module, "::Cache;")]
+        /// let builder = Cache::<u32, u32>::builder().support_invalidation_closures();
+        #[doc = concat!("let ", $cache, " = builder.build();")]
         /// assert!(cache.invalidate_entries_if(|key, _| key % 2 == 0).is_ok());
-        /// let cache: Cache<u32, u32> = Cache::builder().build();
+        #[doc = concat!("let ", $cache, ": Cache<u32, u32> = Cache::builder().build();")]
         /// assert!(cache.invalidate_entries_if(|key, _| key % 2 == 0).is_err());
         /// ```
         pub fn support_invalidation_closures(mut self) -> Self {

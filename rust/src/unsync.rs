@@ -103,6 +103,14 @@ impl<K, V> fmt::Debug for CacheBuilder<K, V> {
 }
 
 impl<K, V> Default for CacheBuilder<K, V> {
+    /// A builder of a cache without a bound.
+    ///
+    /// ```
+    /// use ravulemis::unsync::CacheBuilder;
+    /// let mut cache = CacheBuilder::default().build();
+    /// cache.insert(1, 'a');
+    /// assert_eq!(cache.policy().max_capacity(), None);
+    /// ```
     fn default() -> Self {
         let settings = Settings::default();
         CacheBuilder { settings }
@@ -121,7 +129,7 @@ impl<K: Eq + Hash + Sync + 'static, V: Clone + 'static> CacheBuilder<K, V> {
         CacheBuilder::default().max_capacity(max_capacity)
     }
 
-    setters!();
+    setters!("unsync", "mut cache");
 
     /// Is notified of each value that leaves, with key and cause, at the end of the call. By default nobody is.
     ///

@@ -57,6 +57,14 @@ impl<K, V> fmt::Debug for CacheBuilder<K, V> {
 }
 
 impl<K, V> Default for CacheBuilder<K, V> {
+    /// A builder of a cache without a bound.
+    ///
+    /// ```
+    /// use ravulemis::sync::CacheBuilder;
+    /// let cache = CacheBuilder::default().build();
+    /// cache.insert(1, 'a');
+    /// assert_eq!(cache.policy().max_capacity(), None);
+    /// ```
     fn default() -> Self {
         CacheBuilder {
             settings: Settings::default(),
@@ -81,7 +89,7 @@ where
         CacheBuilder::default().max_capacity(max_capacity)
     }
 
-    setters!();
+    setters!("sync", "cache");
 
     /// Is notified of each value that leaves, with key and cause, after the lock of its shard is released. By default
     /// nobody is. It must not put back each value that leaves with `Size`: another leaves for it, so the call never

@@ -45,6 +45,16 @@ where
 {
     type Item = (Arc<K>, V);
 
+    /// The next entry, its value being cloned now.
+    ///
+    /// ```
+    /// let cache = ravulemis::sync::Cache::new(100);
+    /// cache.insert(1, 'a');
+    /// let mut entries = cache.iter();
+    /// cache.insert(1, 'b');
+    /// assert_eq!(entries.next().map(|(key, value)| (*key, value)), Some((1, 'b')));
+    /// assert!(entries.next().is_none());
+    /// ```
     fn next(&mut self) -> Option<(Arc<K>, V)> {
         loop {
             for (hash, key) in self.keys.by_ref() {

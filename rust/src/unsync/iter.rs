@@ -34,6 +34,15 @@ impl<K: Eq + Hash + Sync + 'static, V: Clone + 'static, S: BuildHasher> FusedIte
 impl<K: Eq + Hash + Sync + 'static, V: Clone + 'static, S: BuildHasher> Iterator for Iter<'_, K, V, S> {
     type Item = (Arc<K>, V);
 
+    /// The next entry, its value being cloned now.
+    ///
+    /// ```
+    /// let mut cache = ravulemis::unsync::Cache::new(100);
+    /// cache.insert(1, 'a');
+    /// let mut entries = cache.iter();
+    /// assert_eq!(entries.next().map(|(key, value)| (*key, value)), Some((1, 'a')));
+    /// assert!(entries.next().is_none());
+    /// ```
     fn next(&mut self) -> Option<(Arc<K>, V)> {
         self.keys.find_map(|(hash, key)| {
             let value = self.cache.shard.scan(hash, &key)?;
