@@ -1,18 +1,27 @@
-//! How much memory a cache asks for.
+//! How much memory a cache asks for, and what it does if that is refused.
 
+use ravulemis::RemovalCause;
 use ravulemis::sync::Cache;
 use std::alloc::{GlobalAlloc, Layout, System};
+use std::ptr;
 use std::sync::atomic::{AtomicUsize, Ordering};
+use std::sync::{Arc, Mutex, PoisonError, mpsc};
 
-/// The system's allocator, which notes the greatest size that was asked for.
+/// The system's allocator, which notes the greatest size that was asked for, and refuses what exceeds a limit.
 struct Noting;
 
 static GREATEST: AtomicUsize = AtomicUsize::new(0);
+static LIMIT: AtomicUsize = AtomicUsize::new(usize::MAX);
+// The tests here are made one after the other.
+static ALONE: Mutex<()> = Mutex::new(());
 
-// SAFETY: all is left to the system's.
+// SAFETY: all is left to the system's, but for what is refused.
 unsafe impl GlobalAlloc for Noting {
     unsafe fn alloc(&self, layout: Layout) -> *mut u8 {
         GREATEST.fetch_max(layout.size(), Ordering::Relaxed);
+        if layout.size() > LIMIT.load(Ordering::Relaxed) {
+            return ptr::null_mut();
+        }
         // SAFETY: as the caller's.
         unsafe { System.alloc(layout) }
     }
@@ -28,6 +37,8 @@ static NOTING: Noting = Noting;
 
 #[test]
 fn an_entry_that_is_too_heavy_asks_for_no_more_memory() {
+    let _alone = ALONE.lock().unwrap_or_else(PoisonError::into_inner);
+    GREATEST.store(0, Ordering::Relaxed);
     let cache = Cache::builder().max_capacity(1000).weigher(|_, weight| *weight).build();
     for key in 0..10 {
         cache.insert(key, 1);
@@ -38,4 +49,29 @@ fn an_entry_that_is_too_heavy_asks_for_no_more_memory() {
     assert_eq!(cache.get(&0), None);
     let greatest = GREATEST.load(Ordering::Relaxed);
     assert!(greatest < 1 << 20, "{greatest} bytes at once");
+}
+
+#[test]
+fn a_value_for_which_no_table_can_grow_leaves_at_once() {
+    let _alone = ALONE.lock().unwrap_or_else(PoisonError::into_inner);
+    let (sender, left) = mpsc::channel();
+    let listener = move |key: Arc<u32>, value, cause| sender.send((*key, value, cause)).unwrap();
+    let cache = Cache::builder().shards(1).eviction_listener(listener).build();
+    LIMIT.store(1 << 16, Ordering::Relaxed);
+    let insert = |key: &u32| {
+        cache.insert(*key, 'a');
+        left.try_recv().ok()
+    };
+    let refused = (0..100_000).find_map(|key| insert(&key));
+    let again = refused.and_then(|(key, ..)| insert(&key));
+    LIMIT.store(usize::MAX, Ordering::Relaxed);
+    let (key, ..) = refused.expect("a table of more than 64 KiB");
+    let told = Some((key, 'a', RemovalCause::Size));
+    assert_eq!((refused, again, cache.stats().evicted), (told, told, 2));
+    assert!(
+        (0..key).all(|kept| cache.get(&kept) == Some('a')),
+        "what was there stays"
+    );
+    cache.insert(key, 'b');
+    assert_eq!((cache.get(&key), cache.iter().count()), (Some('b'), key as usize + 1));
 }
