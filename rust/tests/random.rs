@@ -2,7 +2,8 @@
 
 use ravulemis::ops::compute::{CompResult, Op};
 use ravulemis::{Entry, EvictionPolicy, RemovalCause};
-use std::collections::HashMap;
+use std::cell::Cell;
+use std::collections::{HashMap, HashSet};
 use std::sync::mpsc::{self, Receiver};
 
 const CALLS: u64 = 4_000;
@@ -40,6 +41,7 @@ struct Plain {
     hidden: HashMap<u64, u64>,
     // What was put there and has not left, with the keys.
     there: HashMap<u64, u64>,
+    evicted: HashSet<u64>,
 }
 
 impl Plain {
@@ -69,26 +71,49 @@ impl Plain {
         self.map.remove(&key);
     }
 
-    fn is_entered(&mut self, key: u64, entry: &Entry<u64, u64>) {
-        assert_eq!(*entry.key(), key);
-        assert!(!entry.is_old_value_replaced() || self.map.contains_key(&key));
-        if entry.is_fresh() {
-            self.put(key, *entry.value());
-        } else {
-            self.is_found(key, Some(*entry.value()));
+    // The call saw one value or none, and put one there or not.
+    fn is_entered(&mut self, key: u64, saw: Option<u64>, put: Option<u64>, entry: &Entry<u64, u64>) {
+        self.is_found(key, saw);
+        let is_old_value_replaced = saw.is_some() && put.is_some();
+        assert_eq!((*entry.key(), Some(*entry.value())), (key, put.or(saw)));
+        assert_eq!(
+            (entry.is_fresh(), entry.is_old_value_replaced()),
+            (put.is_some(), is_old_value_replaced)
+        );
+        if let Some(value) = put {
+            self.put(key, value);
         }
     }
 
-    fn is_computed(&mut self, key: u64, answer: CompResult<u64, u64>) {
-        match answer {
-            CompResult::Inserted(entry) | CompResult::ReplacedWith(entry) | CompResult::Unchanged(entry) => {
-                self.is_entered(key, &entry);
+    // A run of maintenance that the look-up of the last call made has evicted what that found.
+    fn is_evicted(&mut self, key: u64, found: u64, told: &Told) {
+        self.has_left(told);
+        assert!(self.evicted.contains(&found), "{found} of key {key}");
+    }
+
+    // The closure saw one value or none, and answered this.
+    fn is_computed(&mut self, key: u64, saw: Option<u64>, op: Op<u64>, answer: CompResult<u64, u64>, told: &Told) {
+        match (op, saw, answer) {
+            (Op::Put(value), None, CompResult::Inserted(entry))
+            | (Op::Put(value), Some(_), CompResult::ReplacedWith(entry)) => {
+                self.is_entered(key, saw, Some(value), &entry);
             }
-            CompResult::Removed(entry) => {
-                self.is_found(key, Some(*entry.value()));
+            (Op::Nop, Some(_), CompResult::Unchanged(entry)) => self.is_entered(key, saw, None, &entry),
+            (Op::Remove, Some(_), CompResult::Removed(entry)) => {
+                self.is_entered(key, saw, None, &entry);
                 self.map.remove(&key);
             }
-            CompResult::StillNone(_) => self.is_found(key, None),
+            (Op::Nop | Op::Remove, None, CompResult::StillNone(none)) => {
+                assert_eq!(*none, key);
+                self.is_found(key, None);
+            }
+            (Op::Remove, Some(value), CompResult::StillNone(none)) => {
+                assert_eq!(*none, key);
+                self.is_found(key, saw);
+                self.is_evicted(key, value, told);
+                self.map.remove(&key);
+            }
+            (op, saw, answer) => panic!("{op:?} of {saw:?} was answered by {answer:?}"),
         }
     }
 
@@ -96,6 +121,9 @@ impl Plain {
     fn has_left(&mut self, told: &Told) {
         for (key, value, cause) in told.try_iter() {
             assert_eq!(self.there.remove(&value), Some(key), "{value} left as {cause:?}");
+            if cause == RemovalCause::Size {
+                self.evicted.insert(value);
+            }
         }
     }
 
@@ -116,12 +144,12 @@ impl Plain {
 
 /// The tests of a cache, which is built by what this builder becomes.
 macro_rules! tests {
-    ($module:ident, $cache:path, $builder:expr) => {
+    ($module:ident, $cache:path, $builder:expr, $asks:expr) => {
         mod $module {
             use super::*;
             use $cache as Cache;
 
-            fn call(cache: &mut Cache<u64, u64>, plain: &mut Plain, key: u64, value: u64, choice: u64) {
+            fn call(cache: &mut Cache<u64, u64>, plain: &mut Plain, key: u64, value: u64, choice: u64, told: &Told) {
                 match choice {
                     0..3 => {
                         cache.insert(key, value);
@@ -139,26 +167,57 @@ macro_rules! tests {
                         made if made == value => plain.put(key, value),
                         found => plain.is_found(key, Some(found)),
                     },
-                    _ => call_of_entry(cache, plain, key, value),
+                    _ => call_of_entry(cache, plain, key, value, told),
                 }
             }
 
-            fn call_of_entry(cache: &mut Cache<u64, u64>, plain: &mut Plain, key: u64, value: u64) {
+            fn call_of_entry(cache: &mut Cache<u64, u64>, plain: &mut Plain, key: u64, value: u64, told: &Told) {
                 match value % 5 {
                     0 => {
-                        let replaces = |old: &u64| old.is_multiple_of(2);
-                        plain.is_entered(key, &cache.entry(key).or_insert_with_if(|| value, replaces));
+                        // A shared cache asks again before it puts a value there.
+                        let (saw, asked) = (Cell::new(None), Cell::new(0));
+                        let replaces = |old: &u64| {
+                            asked.set(asked.get() + 1);
+                            assert!(asked.get() == 1 || saw.get() == Some(*old));
+                            saw.set(Some(*old));
+                            old.is_multiple_of(2)
+                        };
+                        let entry = cache.entry(key).or_insert_with_if(|| value, replaces);
+                        match saw.get() {
+                            Some(old) if !old.is_multiple_of(2) => plain.is_entered(key, Some(old), None, &entry),
+                            Some(old) if asked.get() < $asks => {
+                                plain.is_found(key, Some(old));
+                                plain.is_entered(key, None, Some(value), &entry);
+                                plain.is_evicted(key, old, told);
+                            }
+                            saw => plain.is_entered(key, saw, Some(value), &entry),
+                        }
                     }
                     1 => {
-                        let make = || value.is_multiple_of(3).then_some(value);
-                        match cache.entry_by_ref(&key).or_optionally_insert_with(make) {
-                            Some(entry) => plain.is_entered(key, &entry),
-                            None => plain.is_found(key, None),
+                        let given = value.is_multiple_of(3).then_some(value);
+                        let is_made = Cell::new(false);
+                        let make = || {
+                            is_made.set(true);
+                            given
+                        };
+                        let entry = cache.entry_by_ref(&key).or_optionally_insert_with(make);
+                        match (entry, is_made.get()) {
+                            (Some(entry), true) => plain.is_entered(key, None, given, &entry),
+                            (Some(entry), false) => plain.is_entered(key, Some(*entry.value()), None, &entry),
+                            (None, is_made) => {
+                                assert_eq!((is_made, given), (true, None));
+                                plain.is_found(key, None);
+                            }
                         }
                     }
                     op => {
                         let op = [Op::Nop, Op::Put(value), Op::Remove][op as usize - 2];
-                        plain.is_computed(key, cache.entry(key).and_compute_with(|_| op));
+                        let mut saw = None;
+                        let answer = cache.entry(key).and_compute_with(|there| {
+                            saw = there.map(Entry::into_value);
+                            op
+                        });
+                        plain.is_computed(key, saw, op, answer, told);
                     }
                 }
             }
@@ -171,7 +230,8 @@ macro_rules! tests {
             }
 
             fn agrees(mut cache: Cache<u64, u64>, told: &Told) {
-                let (mut numbers, mut plain) = (Numbers(88_172_645_463_325_252), Plain::default());
+                // With these a run that a look-up makes also evicts what the look-up found.
+                let (mut numbers, mut plain) = (Numbers(14_520_126_549_339_523_386), Plain::default());
                 for value in 1..=CALLS {
                     call(
                         &mut cache,
@@ -179,6 +239,7 @@ macro_rules! tests {
                         numbers.below(KEYS),
                         value,
                         numbers.below(12),
+                        told,
                     );
                     let choice = numbers.below(400);
                     match choice {
@@ -220,5 +281,5 @@ macro_rules! tests {
     };
 }
 
-tests!(shared, ravulemis::sync::Cache, Cache::builder().shards(4));
-tests!(owned, ravulemis::unsync::Cache, Cache::builder());
+tests!(shared, ravulemis::sync::Cache, Cache::builder().shards(4), 2);
+tests!(owned, ravulemis::unsync::Cache, Cache::builder(), 1);
