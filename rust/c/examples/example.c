@@ -112,10 +112,23 @@ int main(void) {
   CHECK(ravulemis_count(cache, &stats) == RAVULEMIS_OK && stats.hits == 2 && stats.misses == 1);
   CHECK(causes[RAVULEMIS_SIZE] == 900 && causes[RAVULEMIS_EXPLICIT] == 2 && stats.evicted == 900);
 
-  uint64_t before = count;
-  CHECK(ravulemis_create(NULL, &cache) == RAVULEMIS_BAD_ARGUMENT);
+  /* A wrong call changes nothing, and tells the listener nothing. */
+  unsigned causes_before[4];
+  ravulemis_stats before;
+  CHECK(ravulemis_insert(cache, "key", 3, "value", 5) == RAVULEMIS_OK);
+  CHECK(ravulemis_run_pending_tasks(cache) == RAVULEMIS_OK);
+  CHECK(ravulemis_size(cache, &count, &weight) == RAVULEMIS_OK && count == 100 && weight == 100);
+  CHECK(ravulemis_count(cache, &before) == RAVULEMIS_OK && before.evicted == 901);
+  memcpy(causes_before, causes, sizeof causes);
+  ravulemis_cache *made = cache;
+  CHECK(ravulemis_create(NULL, &made) == RAVULEMIS_BAD_ARGUMENT && made == cache);
   if (wrong_settings() || wrong_keys_and_buffers(cache) || all_answer(NULL, RAVULEMIS_BAD_ARGUMENT)) return 1;
-  CHECK(ravulemis_size(cache, &count, NULL) == RAVULEMIS_OK && count == before);
+  CHECK(ravulemis_run_pending_tasks(cache) == RAVULEMIS_OK);
+  CHECK(ravulemis_size(cache, &count, &weight) == RAVULEMIS_OK && count == 100 && weight == 100);
+  CHECK(ravulemis_count(cache, &stats) == RAVULEMIS_OK && memcmp(&stats, &before, sizeof stats) == 0);
+  CHECK(memcmp(causes, causes_before, sizeof causes) == 0);
+  CHECK(ravulemis_contains(cache, "key", 3) == RAVULEMIS_OK);
+  CHECK(ravulemis_get(cache, "key", 3, value, sizeof value, &length) == RAVULEMIS_TRUNCATED && length == 5);
   CHECK(ravulemis_destroy(cache) == RAVULEMIS_OK);
   if (all_answer(cache, RAVULEMIS_DESTROYED)) return 1;
   CHECK(strcmp(ravulemis_message(7), "no code of the library") == 0);
