@@ -48,6 +48,7 @@ macro_rules! calls {
         /// ```
         /// let mut cache = ravulemis::unsync::Cache::new(100);
         /// assert_eq!(cache.entry(1).or_insert('a').into_value(), 'a');
+        /// assert_eq!(cache.entry_by_ref(&1).or_insert('b').into_value(), 'a');
         /// ```
         pub fn or_insert(self, default: V) -> Entry<K, V> {
             self.or_insert_with(|| default)
@@ -58,6 +59,7 @@ macro_rules! calls {
         /// ```
         /// let mut cache = ravulemis::unsync::Cache::<u32, u32>::new(100);
         /// assert_eq!(cache.entry(1).or_default().into_value(), 0);
+        /// assert_eq!(cache.entry_by_ref(&2).or_default().into_value(), 0);
         /// ```
         pub fn or_default(self) -> Entry<K, V>
         where
@@ -71,7 +73,7 @@ macro_rules! calls {
         /// ```
         /// let mut cache = ravulemis::unsync::Cache::new(100);
         /// assert!(cache.entry(1).or_insert_with(|| 'a').is_fresh());
-        /// assert!(!cache.entry(1).or_insert_with(|| 'b').is_fresh());
+        /// assert!(!cache.entry_by_ref(&1).or_insert_with(|| 'b').is_fresh());
         /// ```
         pub fn or_insert_with(self, init: impl FnOnce() -> V) -> Entry<K, V> {
             let Ok(entry) = self.or_try_insert_with(|| Ok::<_, Infallible>(init()));
@@ -86,6 +88,8 @@ macro_rules! calls {
         /// cache.insert(1, 'a');
         /// let entry = cache.entry(1).or_insert_with_if(|| 'b', |old| *old == 'a');
         /// assert!(entry.is_old_value_replaced());
+        /// let entry = cache.entry_by_ref(&1).or_insert_with_if(|| 'c', |old| *old == 'a');
+        /// assert_eq!(entry.into_value(), 'b');
         /// ```
         pub fn or_insert_with_if(
             self,
@@ -110,7 +114,8 @@ macro_rules! calls {
         /// ```
         /// let mut cache = ravulemis::unsync::Cache::new(100);
         /// assert!(cache.entry(1).or_optionally_insert_with(|| None).is_none());
-        /// assert!(cache.entry(1).or_optionally_insert_with(|| Some('a')).is_some());
+        /// let entry = cache.entry_by_ref(&1).or_optionally_insert_with(|| Some('a'));
+        /// assert!(entry.is_some_and(|entry| entry.is_fresh()));
         /// ```
         pub fn or_optionally_insert_with(self, init: impl FnOnce() -> Option<V>) -> Option<Entry<K, V>> {
             self.or_try_insert_with(|| init().ok_or(())).ok()
@@ -124,7 +129,8 @@ macro_rules! calls {
         /// ```
         /// let mut cache = ravulemis::unsync::Cache::<u32, u32>::new(100);
         /// assert!(cache.entry(1).or_try_insert_with(|| "one".parse::<u32>()).is_err());
-        /// assert!(cache.entry(1).or_try_insert_with(|| "1".parse::<u32>()).is_ok());
+        /// let entry = cache.entry_by_ref(&1).or_try_insert_with(|| "1".parse::<u32>());
+        /// assert!(entry.is_ok_and(|entry| entry.is_fresh()));
         /// ```
         pub fn or_try_insert_with<F, E>(self, init: F) -> Result<Entry<K, V>, E>
         where
@@ -144,7 +150,8 @@ macro_rules! calls {
         /// for _ in 0..3 {
         ///     cache.entry("key").and_upsert_with(|old| old.map_or(1, |old| old.into_value() + 1));
         /// }
-        /// assert_eq!(cache.get("key"), Some(3));
+        /// let entry = cache.entry_by_ref(&"key").and_upsert_with(|old| old.map_or(1, |old| old.into_value() + 1));
+        /// assert_eq!(entry.into_value(), 4);
         /// ```
         pub fn and_upsert_with(self, f: impl FnOnce(Option<Entry<K, V>>) -> V) -> Entry<K, V> {
             let answer = self.and_compute_with(|there| Op::Put(f(there)));
@@ -162,6 +169,8 @@ macro_rules! calls {
         ///     None => Op::Put('a'),
         /// });
         /// assert!(matches!(answer, CompResult::Inserted(_)));
+        /// let answer = cache.entry_by_ref(&1).and_compute_with(|_| Op::Remove);
+        /// assert!(matches!(answer, CompResult::Removed(_)));
         /// ```
         pub fn and_compute_with(self, f: impl FnOnce(Option<Entry<K, V>>) -> Op<V>) -> CompResult<K, V> {
             let Ok(answer) = self.and_try_compute_with(|there| Ok::<_, Infallible>(f(there)));
@@ -179,6 +188,8 @@ macro_rules! calls {
         /// let answer = cache.entry(1).and_try_compute_with(|_| "one".parse().map(Op::Put));
         /// assert!(answer.is_err());
         /// assert!(!cache.contains_key(&1));
+        /// let answer = cache.entry_by_ref(&1).and_try_compute_with(|_| "1".parse().map(Op::Put));
+        /// assert!(answer.is_ok_and(|answer| answer.unwrap().is_fresh()));
         /// ```
         pub fn and_try_compute_with<F, E>(self, f: F) -> Result<CompResult<K, V>, E>
         where
