@@ -58,20 +58,25 @@ fn a_value_for_which_no_table_can_grow_leaves_at_once() {
     let listener = move |key: Arc<u32>, value, cause| sender.send((*key, value, cause)).unwrap();
     let cache = Cache::builder().shards(1).eviction_listener(listener).build();
     LIMIT.store(1 << 16, Ordering::Relaxed);
-    let insert = |key: &u32| {
-        cache.insert(*key, 'a');
+    let insert = |key, value| {
+        cache.insert(key, value);
         left.try_recv().ok()
     };
-    let refused = (0..100_000).find_map(|key| insert(&key));
-    let again = refused.and_then(|(key, ..)| insert(&key));
+    let refused = (0..100_000).find_map(|key| insert(key, 'a'));
+    let again = refused.and_then(|(key, ..)| insert(key, 'a'));
+    // The room for a replacement was made when its key was put there.
+    let kept = 0..refused.map_or(0, |(key, ..)| key);
+    let replaced: Vec<_> = kept.clone().map(|key| insert(key, 'b')).collect();
     LIMIT.store(usize::MAX, Ordering::Relaxed);
     let (key, ..) = refused.expect("a table of more than 64 KiB");
     let told = Some((key, 'a', RemovalCause::Size));
     assert_eq!((refused, again, cache.stats().evicted), (told, told, 2));
+    let older = kept.clone().map(|key| Some((key, 'a', RemovalCause::Replaced)));
+    assert_eq!(replaced, older.collect::<Vec<_>>());
     assert!(
-        (0..key).all(|kept| cache.get(&kept) == Some('a')),
-        "what was there stays"
+        kept.clone().all(|key| cache.get(&key) == Some('b')),
+        "a newer value stays"
     );
-    cache.insert(key, 'b');
-    assert_eq!((cache.get(&key), cache.iter().count()), (Some('b'), key as usize + 1));
+    cache.insert(key, 'c');
+    assert_eq!((cache.get(&key), cache.iter().count()), (Some('c'), key as usize + 1));
 }
