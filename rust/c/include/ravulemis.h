@@ -99,8 +99,8 @@ int32_t ravulemis_create(const ravulemis_settings *settings, ravulemis_cache **c
 int32_t ravulemis_destroy(ravulemis_cache *cache);
 
 /* Puts a copy of a value under a copy of a key of at least one byte. A value of no bytes may have a null pointer.
-   Refused memory ends the process; but if the cache's own tables cannot grow, the answer is RAVULEMIS_OK, the value
-   leaves at once with RAVULEMIS_SIZE, and an older one under the key stays.
+   Refused memory ends the process; but if the cache's own tables cannot grow for a new key, the answer is RAVULEMIS_OK,
+   and the value leaves at once with RAVULEMIS_SIZE. A value for a key that is there needs no growth.
    Errors: RAVULEMIS_BAD_ARGUMENT, RAVULEMIS_DESTROYED, RAVULEMIS_FAULT. */
 int32_t ravulemis_insert(ravulemis_cache *cache, const void *key, size_t key_length, const void *value,
                          size_t value_length);
