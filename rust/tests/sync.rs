@@ -127,9 +127,9 @@ fn an_idle_entry_is_hidden_and_leaves_as_expired() {
     assert_eq!(cache.iter().collect::<Vec<_>>(), [(Arc::new(1), 'a')]);
     cache.run_pending_tasks();
     assert_eq!(left.try_iter().collect::<Vec<_>>(), [(2, 'b', RemovalCause::Expired)]);
-    thread::sleep(idle / 2);
+    thread::sleep(idle / 4);
     assert!(cache.contains_key(&1), "which is no read");
-    thread::sleep(idle / 2 + Duration::from_millis(100));
+    thread::sleep(idle * 3 / 4 + Duration::from_millis(100));
     assert!(!cache.contains_key(&1));
     cache.run_pending_tasks();
     assert_eq!(left.try_iter().collect::<Vec<_>>(), [(1, 'a', RemovalCause::Expired)]);
