@@ -220,7 +220,7 @@ impl Policy {
 pub struct Stats {
     /// Look-ups that found a value.
     pub hits: u64,
-    /// Look-ups that found none. Hits and misses are all look-ups.
+    /// Look-ups that found none, also those that then waited for another's load. Hits and misses are all look-ups.
     pub misses: u64,
     /// Values that were made by `get_with` and its like, and put there.
     pub loads: u64,

@@ -275,7 +275,8 @@ where
         self.insert_shared(self.0.router.hasher().hash_one(&key), Arc::new(key), value);
     }
 
-    /// Takes a key's value out and hands it out, also one that has expired or was invalidated and has not left yet.
+    /// Takes a key's value out and hands it out, also one that has expired or was invalidated and has not left yet. The
+    /// listener is notified.
     ///
     /// ```
     /// let cache = ravulemis::sync::Cache::new(100);

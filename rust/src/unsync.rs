@@ -449,7 +449,8 @@ impl<K: Eq + Hash + Sync + 'static, V: Clone + 'static, S: BuildHasher> Cache<K,
         RefKeyEntrySelector::new(self, hash, key)
     }
 
-    /// Takes a key's value out and hands it out, also one that has expired or was invalidated and has not left yet.
+    /// Takes a key's value out and hands it out, also one that has expired or was invalidated and has not left yet. The
+    /// listener is notified.
     ///
     /// ```
     /// let mut cache = ravulemis::unsync::Cache::new(100);
