@@ -1,8 +1,9 @@
 //! The segmented cache, and its calls by key. moka: `sync::segment`.
-ghost use Rattle.std.specs.Prelude.{◌≡◌, ◌<◌, false, length, IfErr};
+ghost use Rattle.std.specs.Prelude.{◌≡◌, ◌<◌, false, length, IfErr, option_map};
 ghost use Rattle.moka_parts.specs.Calls.{ContainsStep};
 ghost use Rattle.moka_parts.specs.Hashing.{key_hash};
-ghost use Rattle.moka_calls.specs.Synchronous.{meaning_of, removed, invalidated};
+ghost use Rattle.moka_parts.specs.Records.{record_of_key};
+ghost use Rattle.moka_calls.specs.Synchronous.{meaning_of, removed, invalidated, taken_out};
 ghost use Rattle.moka_segments.specs.Routing.{segment_of};
 ghost use Rattle.moka_segments.specs.Segmented.{Holds, HoldsIfThere, IsAt, Steps as StepsIn};
 ghost use Rattle.moka_segments.specs.Steps.{Inserts, Gets, Removes, GetsWith, GetsWithIfMade, GetsWithIfNoError};
@@ -203,11 +204,16 @@ impl<
         K: Clone + Drop,
         V: Clone + Drop,
         P: Drop,
-        ensures { StepsIn (segment_of self.old.routing.count
+        ensures step { StepsIn (segment_of self.old.routing.count
             (key_hash S.BuildHasher S.Hasher.Hasher self.old.routing.hasher (K.hash_input key.now)))
             (Removes (meaning_of K.eq L.tells P.says W.weighs C.reads X.created X.read X.updated)
             (λ h k. key_hash S.BuildHasher S.Hasher.Hasher h (K.hash_input k)) key.now now clock.old clock.new
             K.is_clone V.is_clone (λ taken. result ≡ removed taken))
+            self.old self.new }
+        ensures value { StepsIn (segment_of self.old.routing.count
+            (key_hash S.BuildHasher S.Hasher.Hasher self.old.routing.hasher (K.hash_input key.now)))
+            (λ old new. taken_out result
+            ≡ option_map (λ r. r.value) (record_of_key K.eq old.engine.state.records key.now))
             self.old self.new }
     {
         let index = self.router.segment_of(key);

@@ -1,7 +1,7 @@
 //! Calls that hand out the value of a key or put one, and calls that compute one.
 use crate::calls::{Ask, Call, Row};
 use crate::notes::{Notes, Words};
-use crate::report::{Left, Refused};
+use crate::report::Refused;
 use crate::rounds::{ROUNDS, are_made, finish};
 use crate::synchronous::{Cached, GONE};
 use moka_cache::{CacheEntry, CompResult, ComputeRefused, GetWithRefused, Op, Stats};

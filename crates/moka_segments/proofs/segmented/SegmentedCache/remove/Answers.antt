@@ -5,11 +5,16 @@ use Rattle.moka_segments.proofs.OneSegment.{steps_in, within_all}
 use Rattle.moka_parts.specs.Hashing.{key_hash}
 use Rattle.moka_segments.proofs.segmented.SegmentedCache.remove.Goals as goal
 
-pub returns : goal.returns
-returns g c =
+pub returns-clause-step : goal.returns-clause-step
+returns-clause-step g c =
     let e = c.remove.ensures in
     steps_in (λ r. segment_of r.count (key_hash g.S.BuildHasher g.S.Hasher.Hasher r.hasher (g.K.Hash.hash_input c.args.key.now))) c.self.view_is c.segment_of-index.ensures.place (rw c.self.invariant c.segment_of-index.ensures.within)
     _ c.index_mut.result.now c.remove.new.self c.index_mut.ensures.value (record { made = e.made; gone = e.gone; counted = e.counted })
+
+pub returns-clause-value : goal.returns-clause-value
+returns-clause-value g c =
+    steps_in (λ r. segment_of r.count (key_hash g.S.BuildHasher g.S.Hasher.Hasher r.hasher (g.K.Hash.hash_input c.args.key.now))) c.self.view_is c.segment_of-index.ensures.place (rw c.self.invariant c.segment_of-index.ensures.within)
+    _ c.index_mut.result.now c.remove.new.self c.index_mut.ensures.value c.remove.ensures.value
 
 pub index_mut-requires : goal.index_mut-requires
 index_mut-requires g c = within_all c.self.inside.segments.ok.0 c.self.invariant c.segment_of-index.ensures.within
