@@ -1,38 +1,62 @@
 """The cache from Python, with nothing but ctypes: example.py LIBRARY.so"""
 
 import ctypes
+import itertools
 import sys
 from ctypes import POINTER, Structure, byref, c_char_p, c_int32, c_size_t, c_uint32, c_uint64, c_void_p
 
-LISTENER = ctypes.CFUNCTYPE(None, c_void_p, c_void_p, c_size_t, c_void_p, c_size_t, c_int32)
+# Each is given a context, and lent key and value with their lengths.
+LENT = [c_void_p, c_size_t, c_void_p, c_size_t]
+LISTENER = ctypes.CFUNCTYPE(None, c_void_p, *LENT, c_int32)
+WEIGH = ctypes.CFUNCTYPE(c_uint32, c_void_p, *LENT)
+EXPIRE = ctypes.CFUNCTYPE(c_uint64, c_void_p, c_int32, *LENT, c_uint64)
+PREDICATE = ctypes.CFUNCTYPE(c_int32, c_void_p, *LENT)
+DROP = ctypes.CFUNCTYPE(None, c_void_p)
 NOT_FOUND, TRUNCATED = 1, 2
+BY_FUNCTION = 2
 CAUSES = ["expired", "explicit", "replaced", "size"]
+EVENTS = ["created", "updated", "read"]
+NEVER = 2**64 - 1
 
 
 class Settings(Structure):
     _fields_ = [
         ("is_bounded", c_int32), ("policy", c_int32), ("max_capacity", c_uint64), ("weigher", c_int32),
         ("shards", c_uint32), ("initial_capacity", c_uint64), ("time_to_live", c_uint64),
-        ("time_to_idle", c_uint64), ("listener", LISTENER), ("context", c_void_p),
+        ("time_to_idle", c_uint64), ("listener", LISTENER), ("context", c_void_p), ("name", c_char_p),
+        ("weigh", WEIGH), ("weigh_context", c_void_p), ("expire", EXPIRE), ("expire_context", c_void_p),
+        ("supports_predicates", c_int32),
     ]
 
 
-class Cache:
-    """A cache of at most so many entries, bytes by bytes. The listener is given key, value and the name of the cause."""
+def copies(key, key_length, value, length):
+    return ctypes.string_at(key, key_length), ctypes.string_at(value, length)
 
-    def __init__(self, library, max_capacity, listener=None):
+
+class Cache:
+    """A cache of at most such a total weight, bytes by bytes. The listener is given key, value and the name of the
+    cause; `weigh` key and value; `expire` the name of the event, key, value and what is left, in nanoseconds."""
+
+    def __init__(self, library, capacity, listener=None, name=None, weigh=None, expire=None, predicates=False):
         self.library, self.cache = library, c_void_p()
         library.ravulemis_message.restype = c_char_p
         # Without these a text would pass for bytes, by the address of its characters.
         library.ravulemis_insert.argtypes = [c_void_p, c_char_p, c_size_t, c_char_p, c_size_t]
         library.ravulemis_get.argtypes = [c_void_p, c_char_p, c_size_t, c_char_p, c_size_t, POINTER(c_size_t)]
-        self.settings = Settings(is_bounded=1, max_capacity=max_capacity)
+        library.ravulemis_invalidate_if.argtypes = [c_void_p, PREDICATE, c_void_p, DROP]
+        # What C may call is kept as long as it may: a predicate until the cache drops its context, its number here.
+        self.settings, self.predicates = Settings(is_bounded=1, max_capacity=capacity), {}
+        self.numbers, self.drop = itertools.count(1), DROP(self.predicates.pop)
         if listener:
-            self.settings.listener = LISTENER(
-                lambda _, key, key_length, value, length, cause: listener(
-                    ctypes.string_at(key, key_length), ctypes.string_at(value, length), CAUSES[cause]
-                )
-            )
+            self.settings.listener = LISTENER(lambda _, *lent: listener(*copies(*lent[:4]), CAUSES[lent[4]]))
+        if name is not None:
+            self.settings.name = name.encode()
+        if weigh:
+            self.settings.weigher = BY_FUNCTION
+            self.settings.weigh = WEIGH(lambda _, *lent: weigh(*copies(*lent)))
+        if expire:
+            self.settings.expire = EXPIRE(lambda _, event, *lent: expire(EVENTS[event], *copies(*lent[:4]), lent[4]))
+        self.settings.supports_predicates = predicates
         self.checked(library.ravulemis_create(byref(self.settings), byref(self.cache)))
 
     def checked(self, code):
@@ -44,13 +68,34 @@ class Cache:
         lengths = c_size_t(len(key)), c_size_t(len(value))
         self.checked(self.library.ravulemis_insert(self.cache, key, lengths[0], value, lengths[1]))
 
-    def get(self, key, room=64):
+    def copied(self, call, *arguments, room=64):
+        """What a call copies to a buffer, or None if there is nothing."""
         buffer, length = ctypes.create_string_buffer(room), c_size_t()
-        arguments = self.cache, key, c_size_t(len(key)), buffer, c_size_t(room), byref(length)
-        code = self.checked(self.library.ravulemis_get(*arguments))
+        code = self.checked(call(self.cache, *arguments, buffer, c_size_t(room), byref(length)))
         if code == TRUNCATED:
-            return self.get(key, length.value)
+            return self.copied(call, *arguments, room=length.value)
         return None if code == NOT_FOUND else buffer.raw[: length.value]
+
+    def get(self, key):
+        return self.copied(self.library.ravulemis_get, key, c_size_t(len(key)))
+
+    def name(self):
+        name = self.copied(self.library.ravulemis_name)
+        return None if name is None else name[:-1].decode()
+
+    def invalidate_if(self, predicate):
+        """Hides the entries for whose key and value the predicate is true."""
+        number, asked = next(self.numbers), PREDICATE(lambda _, *lent: bool(predicate(*copies(*lent))))
+        self.predicates[number] = asked
+        self.checked(self.library.ravulemis_invalidate_if(self.cache, asked, number, self.drop))
+
+    def run_pending_tasks(self):
+        self.checked(self.library.ravulemis_run_pending_tasks(self.cache))
+
+    def weight(self):
+        weight = c_uint64()
+        self.checked(self.library.ravulemis_size(self.cache, None, byref(weight)))
+        return weight.value
 
     def close(self):
         self.checked(self.library.ravulemis_destroy(self.cache))
@@ -66,8 +111,35 @@ class Cache:
         self.library.ravulemis_destroy(self.cache)
 
 
+def with_every_setting(library):
+    asked = []
+
+    def expire(event, key, value, left):
+        asked.append((event, key, left))
+        return left if event == "read" else 0 if value == b"gone" else NEVER
+
+    name, weigh = "café" * 20, lambda key, value: len(key) + len(value)
+    with Cache(library, 104, name=name, weigh=weigh, expire=expire, predicates=True) as cache:
+        assert cache.name() == name
+        for key in range(4):
+            cache[b"%d" % key] = b"v" * 10 * (key + 1)
+        cache.run_pending_tasks()
+        assert cache.weight() == 104
+        cache[b"0"] = b"gone"
+        assert cache.get(b"0") is None and cache.get(b"3") == b"v" * 40
+        created = [("created", b"%d" % key, NEVER) for key in range(4)]
+        assert asked == created + [("updated", b"0", NEVER), ("read", b"3", NEVER)], asked
+        cache.invalidate_if(lambda key, value: key == b"2" or len(value) == 40)
+        assert [cache.get(b"%d" % key) is None for key in range(4)] == [True, False, True, True]
+        cache.run_pending_tasks()
+        assert cache.weight() == 21 and not cache.predicates
+        cache.invalidate_if(lambda key, value: True)
+    assert not cache.predicates
+
+
 def main(path):
     library = ctypes.CDLL(path)
+    with_every_setting(library)
     told = []
     with Cache(library, 10, lambda *notice: told.append(notice)) as cache:
         cache[b"key"] = b"value"
@@ -80,13 +152,18 @@ def main(path):
             pass
         else:
             sys.exit("a text was taken for bytes")
-    for wrong in (cache.close, lambda: cache.get(b"key"), lambda: Cache.get(Cache(library, 1), b"")):
+    plain = Cache(library, 1)
+    refused = [cache.close, lambda: cache.get(b"key"), lambda: plain.get(b"")]
+    refused.append(lambda: plain.invalidate_if(lambda key, value: True))
+    for wrong in refused:
         try:
             wrong()
         except ValueError as error:
             print(f"Python: {error}")
         else:
             sys.exit("a wrong call was not refused")
+    # A predicate that is refused is dropped as well.
+    assert plain.name() is None and not plain.predicates
 
 
 if __name__ == "__main__":

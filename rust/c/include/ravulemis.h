@@ -2,12 +2,13 @@
 
    Every function may be called by any thread at any time. A cache that is destroyed while calls for it are on their way
    goes with the last of them. Keys and values are copied in and out: the caller keeps what it passes, and nothing that
-   a call hands out belongs to the cache, but what the listener is lent for the time of its call. Durations are in
-   nanoseconds, lengths in bytes; a weight is 1 for an entry, or the lengths of its key and value together, at most
-   2^32 - 1.
+   a call hands out belongs to the cache, but what the caller's own functions are lent for the time of their calls.
+   Durations are in nanoseconds, lengths in bytes; a weight is 1 for an entry, or the lengths of its key and value
+   together, at most 2^32 - 1, or what a function of the caller's answers.
 
    Every function but `ravulemis_message` answers a code of `enum ravulemis_code`. One below 0 is a wrong call, which
-   has done nothing, or a fault. A pointer that is neither null nor from `ravulemis_create` cannot be told apart.
+   has done nothing (but `ravulemis_invalidate_if` drops the context also then), or a fault. A pointer that is neither
+   null nor from `ravulemis_create` cannot be told apart.
 
    Compile against the header that came with the library: structs grow with new settings. */
 
@@ -25,22 +26,24 @@ typedef struct ravulemis_cache ravulemis_cache;
 
 enum ravulemis_code {
   RAVULEMIS_OK = 0,
-  /* There is no value under the key. */
+  /* There is no value under the key, or no name. */
   RAVULEMIS_NOT_FOUND = 1,
   /* The buffer is too small. Its first bytes are filled, and the whole length is told. */
   RAVULEMIS_TRUNCATED = 2,
-  /* A pointer is null that must not be, a key is empty, a length exceeds PTRDIFF_MAX, or a setting is none of those
-     named below. */
+  /* A pointer is null that must not be, or not null that must be; a key is empty, a length exceeds PTRDIFF_MAX, a name
+     is not UTF-8, or a setting is none of those named below. */
   RAVULEMIS_BAD_ARGUMENT = -1,
   /* The cache was destroyed. */
   RAVULEMIS_DESTROYED = -2,
   /* A fault of the library's own. The shard of the key is emptied by the next call for it. */
-  RAVULEMIS_FAULT = -3
+  RAVULEMIS_FAULT = -3,
+  /* The cache was created without `supports_predicates`. */
+  RAVULEMIS_UNSUPPORTED = -4
 };
 
 enum ravulemis_policy { RAVULEMIS_TINY_LFU = 0, RAVULEMIS_LRU = 1 };
 
-enum ravulemis_weigher { RAVULEMIS_BY_NUMBER = 0, RAVULEMIS_BY_BYTES = 1 };
+enum ravulemis_weigher { RAVULEMIS_BY_NUMBER = 0, RAVULEMIS_BY_BYTES = 1, RAVULEMIS_BY_FUNCTION = 2 };
 
 enum ravulemis_cause {
   RAVULEMIS_EXPIRED = 0,
@@ -49,20 +52,50 @@ enum ravulemis_cause {
   RAVULEMIS_SIZE = 3
 };
 
-/* Is lent key, value and cause of each value that leaves, until it returns, by the thread by whose call it left or by
-   another that is notifying already. Several threads may call it at once, one for each shard, so what `context` points
-   to has to bear that; for one shard its calls follow each other. It may call the cache, and is told of what leaves by
-   that when it has returned; but it must not wait for another thread that does: if 1,024 notices are pending, that one
-   may wait for it. Nor may it put back each value that leaves with RAVULEMIS_SIZE: another leaves for it, so the call
-   never ends. It must not throw or jump out. */
+enum ravulemis_event { RAVULEMIS_CREATED = 0, RAVULEMIS_UPDATED = 1, RAVULEMIS_READ = 2 };
+
+/* The caller's functions: a listener, a weigher, an expiry and predicates. Each is given its own context, and lent key
+   and value until it returns; neither pointer is null, also for a value of no bytes. Several threads may call it at
+   once, one for each shard, so what the context points to has to bear that; for one shard its calls follow each other,
+   but those of the listener may overlap with the others'. It must not throw or jump out.
+
+   All but the listener are called within a call, under the lock of a shard, and so may be what drops the context of a
+   predicate: they must neither call the cache nor wait for a lock that a thread holds while it calls the cache. */
+
+/* Is told of each value that leaves, by the thread by whose call it left or by another that is notifying already;
+   `cause` is one of `enum ravulemis_cause`. It may call the cache, and is told of what leaves by that when it has
+   returned; but it must not wait for another thread that does: if 1,024 notices are pending, that one may wait for it.
+   Nor may it put back each value that leaves with RAVULEMIS_SIZE: another leaves for it, so the call never ends. */
 typedef void (*ravulemis_listener)(void *context, const void *key, size_t key_length, const void *value,
                                    size_t value_length, int32_t cause);
 
-/* What a cache is created with. With all bytes 0 it has no bound, which `ravulemis_settings_default` gives too. Rust's
-   builder has more, which C has not: a name, an expiry for single entries, a weigher of the caller's own, predicates,
-   and a hasher. Keys are hashed with a random seed. */
+/* Answers the weight of an entry that is inserted, the same for equal keys and values. An entry that weighs more than
+   the capacity, or a shard's share of it, is not kept; if it replaces a value that is, all others of its shard leave
+   before it. */
+typedef uint32_t (*ravulemis_weigh)(void *context, const void *key, size_t key_length, const void *value,
+                                    size_t value_length);
+
+/* Answers how long an entry stays from now on, UINT64_MAX for always, at each insert and at each `ravulemis_get` that
+   finds a value. `event` is one of `enum ravulemis_event`: RAVULEMIS_UPDATED for a value that replaces one which has
+   not left, visible or not; but if that one's time by the last answer is over, it is RAVULEMIS_CREATED. `remaining` is
+   what the entry has left by the last answer and by the cache's times to live and to idle, which hold beside it; it is
+   UINT64_MAX if nothing ends the entry, and with RAVULEMIS_CREATED. An answer that equals it changes nothing. With 0
+   the entry expires at once, but a read still hands its value out. */
+typedef uint64_t (*ravulemis_expire)(void *context, int32_t event, const void *key, size_t key_length,
+                                     const void *value, size_t value_length, uint64_t remaining);
+
+/* Answers whether an entry is to be hidden, 0 for no, the same for equal keys and values. */
+typedef int32_t (*ravulemis_predicate)(void *context, const void *key, size_t key_length, const void *value,
+                                       size_t value_length);
+
+/* Drops the context of a predicate. */
+typedef void (*ravulemis_drop)(void *context);
+
+/* What a cache is created with. With all bytes 0 it has no bound, which `ravulemis_settings_default` gives too. Of the
+   settings of Rust's builder one is missing, the hasher: keys are hashed with a random seed, so that nobody can choose
+   ones that collide. */
 typedef struct ravulemis_settings {
-  /* Whether there is a bound, 0 or 1, and the greatest total weight; with 0 nothing is kept. */
+  /* Whether there is a bound, 0 or 1, and the greatest total weight; with 0 nothing is kept, weighed or timed. */
   int32_t is_bounded;
   /* One of `enum ravulemis_policy`. */
   int32_t policy;
@@ -78,9 +111,19 @@ typedef struct ravulemis_settings {
   /* How long an entry stays after it was written, and after it was written or read; 0 for always. */
   uint64_t time_to_live;
   uint64_t time_to_idle;
-  /* May be null. The context is the caller's, and has to outlive the cache and the calls for it. */
+  /* May be null. The context is the caller's, and has to outlive the cache and the calls for it; so do those below. */
   ravulemis_listener listener;
   void *context;
+  /* May be null. UTF-8 with a NUL at its end, which is copied, for `ravulemis_name` to tell. */
+  const char *name;
+  /* Not null with RAVULEMIS_BY_FUNCTION, and null with any other `weigher`. */
+  ravulemis_weigh weigh;
+  void *weigh_context;
+  /* May be null: then no entry expires but by the times above. */
+  ravulemis_expire expire;
+  void *expire_context;
+  /* Whether `ravulemis_invalidate_if` takes predicates, 0 or 1. */
+  int32_t supports_predicates;
 } ravulemis_settings;
 
 typedef struct ravulemis_stats {
@@ -129,9 +172,23 @@ int32_t ravulemis_invalidate(ravulemis_cache *cache, const void *key, size_t key
    Errors: RAVULEMIS_BAD_ARGUMENT, RAVULEMIS_DESTROYED, RAVULEMIS_FAULT. */
 int32_t ravulemis_invalidate_all(ravulemis_cache *cache);
 
+/* Hides all values that are there and to which the predicate says yes, which leave later. The cache has to be created
+   with `supports_predicates`. Later calls, by whatever thread, ask the predicate about values that are older than this
+   call, until maintenance has found none left that it hides; `ravulemis_run_pending_tasks` sees to that. Then, or when
+   the cache goes (if its capacity is 0, then alone), the context is dropped: `drop_context` is called with it once. It
+   may be null: then the context has to outlive the cache and the calls for it. If this call is refused, the context is
+   dropped before it returns. Errors: RAVULEMIS_BAD_ARGUMENT, RAVULEMIS_DESTROYED, RAVULEMIS_UNSUPPORTED;
+   RAVULEMIS_FAULT, also if there is no memory for one more predicate: then some shards may have it already. */
+int32_t ravulemis_invalidate_if(ravulemis_cache *cache, ravulemis_predicate predicate, void *context,
+                                ravulemis_drop drop_context);
+
 /* Does what calls left for later: what has expired, was invalidated or exceeds the capacity leaves.
    Errors: RAVULEMIS_BAD_ARGUMENT, RAVULEMIS_DESTROYED, RAVULEMIS_FAULT. */
 int32_t ravulemis_run_pending_tasks(ravulemis_cache *cache);
+
+/* Copies the cache's name as `ravulemis_get` does a value. The NUL at its end is copied and counted too.
+   Answers RAVULEMIS_NOT_FOUND if there is none. Errors: RAVULEMIS_BAD_ARGUMENT, RAVULEMIS_DESTROYED. */
+int32_t ravulemis_name(ravulemis_cache *cache, char *buffer, size_t room, size_t *name_length);
 
 /* How many entries, and of which total weight, the last runs of maintenance left. Either pointer may be null.
    Errors: RAVULEMIS_BAD_ARGUMENT, RAVULEMIS_DESTROYED, RAVULEMIS_FAULT. */

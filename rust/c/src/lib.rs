@@ -1,12 +1,15 @@
 //! The cache for C: `include/ravulemis.h` says what each function does.
 
+mod callbacks;
+mod settings;
+
+use callbacks::{Context, DropContext, Owned, Predicate};
 use ravulemis::sync::Cache;
-use ravulemis::{EvictionPolicy, RemovalCause};
-use std::ffi::{c_char, c_void};
+use settings::{Settings, built};
+use std::ffi::{CStr, c_char, c_void};
 use std::panic::{AssertUnwindSafe, catch_unwind};
 use std::slice::from_raw_parts;
 use std::sync::{Arc, PoisonError, RwLock};
-use std::time::Duration;
 
 type Bytes = Arc<[u8]>;
 
@@ -16,27 +19,12 @@ const TRUNCATED: i32 = 2;
 const BAD_ARGUMENT: i32 = -1;
 const DESTROYED: i32 = -2;
 const FAULT: i32 = -3;
-
-const MOST_SHARDS: u32 = 1 << 16;
-const MOST_INITIAL: u64 = 1 << 24;
+const UNSUPPORTED: i32 = -4;
 
 /// A cache until it is destroyed. It stays in memory afterwards, so that a later call is told.
-pub struct Handle(RwLock<Option<Cache<Vec<u8>, Bytes>>>);
-
-type Listener = extern "C" fn(*mut c_void, *const c_void, usize, *const c_void, usize, i32);
-
-#[repr(C)]
-pub struct Settings {
-    is_bounded: i32,
-    policy: i32,
-    max_capacity: u64,
-    weigher: i32,
-    shards: u32,
-    initial_capacity: u64,
-    time_to_live: u64,
-    time_to_idle: u64,
-    listener: Option<Listener>,
-    context: *mut c_void,
+pub struct Handle {
+    cache: RwLock<Option<Cache<Vec<u8>, Bytes>>>,
+    supports_predicates: bool,
 }
 
 #[repr(C)]
@@ -47,27 +35,6 @@ pub struct Counts {
     explicit_removals: u64,
     replaced: u64,
     evicted: u64,
-}
-
-/// The caller's listener with its context.
-struct Told(Listener, *mut c_void);
-
-// SAFETY: the header says that several threads may call the listener at once, so the caller's context has to bear that.
-unsafe impl Send for Told {}
-// SAFETY: as above.
-unsafe impl Sync for Told {}
-
-impl Told {
-    fn tell(&self, key: &[u8], value: &[u8], cause: RemovalCause) {
-        let cause = match cause {
-            RemovalCause::Expired => 0,
-            RemovalCause::Explicit => 1,
-            RemovalCause::Replaced => 2,
-            RemovalCause::Size => 3,
-        };
-        let (key_at, value_at) = (key.as_ptr().cast(), value.as_ptr().cast());
-        (self.0)(self.1, key_at, key.len(), value_at, value.len(), cause);
-    }
 }
 
 // The code of a call, and of one that panics.
@@ -81,7 +48,7 @@ unsafe fn with_cache(cache: *const Handle, call: impl FnOnce(&Cache<Vec<u8>, Byt
     coded(|| {
         let handle = unsafe { cache.as_ref() }.ok_or(BAD_ARGUMENT)?;
         // The lock is not held in the call, in which the listener may call again.
-        let cache = handle.0.read().unwrap_or_else(PoisonError::into_inner).clone();
+        let cache = handle.cache.read().unwrap_or_else(PoisonError::into_inner).clone();
         call(&cache.ok_or(DESTROYED)?)
     })
 }
@@ -120,45 +87,14 @@ unsafe fn hand_out(value: &[u8], buffer: *mut u8, room: usize, length: *mut usiz
     if count < value.len() { TRUNCATED } else { OK }
 }
 
-fn built(settings: &Settings) -> Result<Cache<Vec<u8>, Bytes>, i32> {
-    let mut builder = Cache::builder();
-    match settings.is_bounded {
-        0 => {}
-        1 => builder = builder.max_capacity(settings.max_capacity),
-        _ => return Err(BAD_ARGUMENT),
+// The caller's text, or none if the pointer is null.
+// SAFETY: the pointer is null or a NUL ends what is there, and that stays so while the text is used.
+unsafe fn text<'a>(at: *const c_char) -> Result<Option<&'a str>, i32> {
+    if at.is_null() {
+        return Ok(None);
     }
-    builder = builder.eviction_policy(match settings.policy {
-        0 => EvictionPolicy::tiny_lfu(),
-        1 => EvictionPolicy::lru(),
-        _ => return Err(BAD_ARGUMENT),
-    });
-    match settings.weigher {
-        0 => {}
-        1 => {
-            builder = builder.weigher(|key: &Vec<u8>, value: &Bytes| {
-                u32::try_from(key.len().saturating_add(value.len())).unwrap_or(u32::MAX)
-            })
-        }
-        _ => return Err(BAD_ARGUMENT),
-    }
-    if settings.shards > MOST_SHARDS || settings.initial_capacity > MOST_INITIAL {
-        return Err(BAD_ARGUMENT);
-    }
-    builder = builder.initial_capacity(settings.initial_capacity as usize);
-    if settings.shards > 0 {
-        builder = builder.shards(settings.shards as usize);
-    }
-    if settings.time_to_live > 0 {
-        builder = builder.time_to_live(Duration::from_nanos(settings.time_to_live));
-    }
-    if settings.time_to_idle > 0 {
-        builder = builder.time_to_idle(Duration::from_nanos(settings.time_to_idle));
-    }
-    if let Some(listener) = settings.listener {
-        let told = Told(listener, settings.context);
-        builder = builder.eviction_listener(move |key, value, cause| told.tell(&key, &value, cause));
-    }
-    Ok(builder.build())
+    let text = unsafe { CStr::from_ptr(at) }.to_str();
+    text.map(Some).map_err(|_| BAD_ARGUMENT)
 }
 
 /// # Safety
@@ -168,19 +104,7 @@ pub unsafe extern "C" fn ravulemis_settings_default(settings: *mut Settings) -> 
     if settings.is_null() {
         return BAD_ARGUMENT;
     }
-    let default = Settings {
-        is_bounded: 0,
-        policy: 0,
-        max_capacity: 0,
-        weigher: 0,
-        shards: 0,
-        initial_capacity: 0,
-        time_to_live: 0,
-        time_to_idle: 0,
-        listener: None,
-        context: std::ptr::null_mut(),
-    };
-    unsafe { settings.write(default) };
+    unsafe { settings.write(Settings::default()) };
     OK
 }
 
@@ -193,7 +117,11 @@ pub unsafe extern "C" fn ravulemis_create(settings: *const Settings, cache: *mut
         if cache.is_null() {
             return Err(BAD_ARGUMENT);
         }
-        let made = Handle(RwLock::new(Some(built(settings)?)));
+        let name = unsafe { text(settings.name) }?;
+        let made = Handle {
+            cache: RwLock::new(Some(built(settings, name)?)),
+            supports_predicates: settings.supports_predicates == 1,
+        };
         unsafe { cache.write(Box::into_raw(Box::new(made))) };
         Ok(OK)
     })
@@ -205,7 +133,7 @@ pub unsafe extern "C" fn ravulemis_create(settings: *const Settings, cache: *mut
 pub unsafe extern "C" fn ravulemis_destroy(cache: *mut Handle) -> i32 {
     coded(|| {
         let handle = unsafe { cache.as_ref() }.ok_or(BAD_ARGUMENT)?;
-        let gone = handle.0.write().unwrap_or_else(PoisonError::into_inner).take();
+        let gone = handle.cache.write().unwrap_or_else(PoisonError::into_inner).take();
         gone.map(|_| OK).ok_or(DESTROYED)
     })
 }
@@ -306,12 +234,56 @@ pub unsafe extern "C" fn ravulemis_invalidate_all(cache: *mut Handle) -> i32 {
 }
 
 /// # Safety
+/// Each pointer is null or one to what the header says.
+#[unsafe(no_mangle)]
+pub unsafe extern "C" fn ravulemis_invalidate_if(
+    cache: *mut Handle,
+    predicate: Option<Predicate>,
+    context: *mut c_void,
+    drop_context: Option<DropContext>,
+) -> i32 {
+    // Whichever way the call ends, this drops the context, or the predicate that owns it by then.
+    let owned = Owned(Context(context), drop_context);
+    // The front, too, would refuse it, but after the runs that are due: a wrong call does nothing.
+    let is_supported = unsafe { cache.as_ref() }.is_some_and(|handle| handle.supports_predicates);
+    let call = move |cache: &Cache<Vec<u8>, Bytes>| {
+        let predicate = predicate.ok_or(BAD_ARGUMENT)?;
+        if !is_supported {
+            return Err(UNSUPPORTED);
+        }
+        let hides = move |key: &Vec<u8>, value: &Bytes| owned.ask(predicate, key, value);
+        cache.invalidate_entries_if(hides).map(|_| OK).map_err(|_| FAULT)
+    };
+    unsafe { with_cache(cache, call) }
+}
+
+/// # Safety
 /// The pointer is null or one of `ravulemis_create`.
 #[unsafe(no_mangle)]
 pub unsafe extern "C" fn ravulemis_run_pending_tasks(cache: *mut Handle) -> i32 {
     let call = |cache: &Cache<Vec<u8>, Bytes>| {
         cache.run_pending_tasks();
         Ok(OK)
+    };
+    unsafe { with_cache(cache, call) }
+}
+
+/// # Safety
+/// Each pointer is null or one to what the header says.
+#[unsafe(no_mangle)]
+pub unsafe extern "C" fn ravulemis_name(
+    cache: *mut Handle,
+    buffer: *mut c_char,
+    room: usize,
+    name_length: *mut usize,
+) -> i32 {
+    let call = |cache: &Cache<Vec<u8>, Bytes>| {
+        if buffer.is_null() && room > 0 {
+            return Err(BAD_ARGUMENT);
+        }
+        let name = cache.name().ok_or(NOT_FOUND)?;
+        let with_end = [name.as_bytes(), b"\0"].concat();
+        Ok(unsafe { hand_out(&with_end, buffer.cast(), room, name_length) })
     };
     unsafe { with_cache(cache, call) }
 }
@@ -357,11 +329,12 @@ pub unsafe extern "C" fn ravulemis_count(cache: *mut Handle, counts: *mut Counts
 pub extern "C" fn ravulemis_message(code: i32) -> *const c_char {
     let text = match code {
         OK => c"done",
-        NOT_FOUND => c"there is no value under the key",
+        NOT_FOUND => c"there is no value under the key, or no name",
         TRUNCATED => c"the buffer is too small",
         BAD_ARGUMENT => c"a wrong argument",
         DESTROYED => c"the cache was destroyed",
         FAULT => c"a fault of the library",
+        UNSUPPORTED => c"the cache takes no predicates",
         _ => c"no code of the library",
     };
     text.as_ptr()
