@@ -1,12 +1,17 @@
 -- What explains the reply to a call.
-use Rattle.std.specs.Prelude.{◌≡◌, ℕ, Bool, List, length, map, IsPermutation, if◌then◌else◌}
+use Rattle.std.specs.Prelude.{◌≡◌, ℕ, Bool, List, length, map, Contains, IsPermutation, Some, None, if◌then◌else◌}
 use Rattle.std.specs.List.{AllByRecursion}
 use Rattle.std.specs.List.Sorted.{IsNonDecreasing}
-use Rattle.std.specs.FinMap.{values}
+use Rattle.std.specs.FinMap.{get, values}
 use Rattle.moka_parts.specs.declared.calls.Call.TheVariants as call
 use Rattle.moka_parts.specs.declared.policy.Instant.{Instant}
+use Rattle.moka_parts.specs.declared.records.Record.{Record}
+use Rattle.moka_parts.specs.Maintenance.{Freedom, AreFree, at_end, left_in_run}
+use Rattle.moka_parts.specs.State.{State}
+use Rattle.moka_parts.specs.Visibility.{IsVisible}
+use Rattle.moka_parts.specs.Writes.{leaves_for_size}
 use Rattle.moka_script.specs.Calls.{CallText}
-use Rattle.moka_play.specs.Played.{ScriptState}
+use Rattle.moka_play.specs.Played.{ScriptState, script_meaning}
 use Rattle.moka_explain.specs.declared.look.Look.{Look}
 use Rattle.moka_explain.specs.declared.explain.Question.{Question}
 use Rattle.moka_explain.specs.declared.explain.Question.TheVariants as question
@@ -58,3 +63,22 @@ IsAnswer (question.All now) s t (answer.Became fates) = AreFates now s t fates
 IsAnswer (question.Both key now) s t (answer.MetAndBecame look fates) = IsMet key now s look × AreFates now s t fates
 IsAnswer question.Nothing s t answer.Nothing = Unit {0}
 IsAnswer q s t a = ⊥
+
+-- ---- why an entry left that was visible
+
+-- a run at the moment leads to these records, and the notice of the record in it says that it left to make room
+abbrev pub LeavesForRoom : {K V X P W : Type 0} → (P → K → V → Bool → Type 0) → State K V X P W → State K V X P W → ℕ →
+    Record K V → Type 0
+LeavesForRoom says s t now r = (ch : Freedom) × AreFree says s now ch × (t.records ≡ (at_end s ch).records)
+    × Contains (left_in_run s ch) (leaves_for_size r)
+
+-- each record that was visible at the moment and is gone left to make room
+abbrev pub MakesRoom : ℕ → ScriptState → ScriptState → Type 0
+MakesRoom now s t = (n : ℕ) (r : Record ℕ (List ℕ)) → get s.records n ≡ Some r → IsVisible script_meaning.says s r now
+    → get t.records n ≡ None → LeavesForRoom script_meaning.says s t now r
+
+-- so it is in the runs that a script asks for
+abbrev pub IsMadeRoomFor : CallText → ScriptState → ScriptState → Type 0
+IsMadeRoomFor (call.Run now limit repeats batch) s t = MakesRoom now.0 s t
+IsMadeRoomFor (call.RunIfDue now) s t = MakesRoom now.0 s t
+IsMadeRoomFor c s t = Unit {0}

@@ -7,7 +7,7 @@ ghost use Rattle.moka_parts.specs.Drives.{Drives};
 ghost use Rattle.moka_script.specs.declared.key_range.KeyRange.{KeyRange};
 ghost use Rattle.moka_script.specs.Text.{IsInOrder};
 ghost use Rattle.moka_play.specs.Played.{script_meaning};
-ghost use Rattle.moka_explain.specs.Explained.{question_of, queued_in, AreFates, IsAnswer};
+ghost use Rattle.moka_explain.specs.Explained.{question_of, queued_in, AreFates, IsAnswer, IsMadeRoomFor};
 
 use crate::look::{Look, look_at, look_at_all};
 use crate::text::write_explained;
@@ -126,6 +126,7 @@ pub fn explain_call(
         cache.new outside.new.clock outside.new.ids) }
     ensures answer { IfOk result (λ explained.
         IsAnswer (question_of automatic call) cache.old.state cache.new.state explained.answer) }
+    ensures room { IfOk result (λ _. IsMadeRoomFor call cache.old.state cache.new.state) }
 {
     match question_of(&call, automatic) {
         Question::Key { key, now } => {
