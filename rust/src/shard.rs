@@ -481,6 +481,9 @@ impl<K: Eq + Hash + 'static, V> Shard<K, V> {
     where
         V: Clone,
     {
+        if !self.settings.takes_closures {
+            return Err(PredicateError::InvalidationClosuresDisabled);
+        }
         self.calls_until_reading = 0;
         let now = self.read_clock();
         self.run_what_is_due(now);

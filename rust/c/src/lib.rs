@@ -4,6 +4,7 @@ mod callbacks;
 mod settings;
 
 use callbacks::{Context, DropContext, Owned, Predicate};
+use ravulemis::PredicateError;
 use ravulemis::sync::Cache;
 use settings::{Settings, built};
 use std::ffi::{CStr, c_char, c_void};
@@ -22,10 +23,7 @@ const FAULT: i32 = -3;
 const UNSUPPORTED: i32 = -4;
 
 /// A cache until it is destroyed. It stays in memory afterwards, so that a later call is told.
-pub struct Handle {
-    cache: RwLock<Option<Cache<Vec<u8>, Bytes>>>,
-    supports_predicates: bool,
-}
+pub struct Handle(RwLock<Option<Cache<Vec<u8>, Bytes>>>);
 
 #[repr(C)]
 pub struct Counts {
@@ -48,7 +46,7 @@ unsafe fn with_cache(cache: *const Handle, call: impl FnOnce(&Cache<Vec<u8>, Byt
     coded(|| {
         let handle = unsafe { cache.as_ref() }.ok_or(BAD_ARGUMENT)?;
         // The lock is not held in the call, in which the listener may call again.
-        let cache = handle.cache.read().unwrap_or_else(PoisonError::into_inner).clone();
+        let cache = handle.0.read().unwrap_or_else(PoisonError::into_inner).clone();
         call(&cache.ok_or(DESTROYED)?)
     })
 }
@@ -118,10 +116,7 @@ pub unsafe extern "C" fn ravulemis_create(settings: *const Settings, cache: *mut
             return Err(BAD_ARGUMENT);
         }
         let name = unsafe { text(settings.name) }?;
-        let made = Handle {
-            cache: RwLock::new(Some(built(settings, name)?)),
-            supports_predicates: settings.supports_predicates == 1,
-        };
+        let made = Handle(RwLock::new(Some(built(settings, name)?)));
         unsafe { cache.write(Box::into_raw(Box::new(made))) };
         Ok(OK)
     })
@@ -133,7 +128,7 @@ pub unsafe extern "C" fn ravulemis_create(settings: *const Settings, cache: *mut
 pub unsafe extern "C" fn ravulemis_destroy(cache: *mut Handle) -> i32 {
     coded(|| {
         let handle = unsafe { cache.as_ref() }.ok_or(BAD_ARGUMENT)?;
-        let gone = handle.cache.write().unwrap_or_else(PoisonError::into_inner).take();
+        let gone = handle.0.write().unwrap_or_else(PoisonError::into_inner).take();
         gone.map(|_| OK).ok_or(DESTROYED)
     })
 }
@@ -244,15 +239,14 @@ pub unsafe extern "C" fn ravulemis_invalidate_if(
 ) -> i32 {
     // Whichever way the call ends, this drops the context, or the predicate that owns it by then.
     let owned = Owned(Context(context), drop_context);
-    // The front, too, would refuse it, but after the runs that are due: a wrong call does nothing.
-    let is_supported = unsafe { cache.as_ref() }.is_some_and(|handle| handle.supports_predicates);
     let call = move |cache: &Cache<Vec<u8>, Bytes>| {
         let predicate = predicate.ok_or(BAD_ARGUMENT)?;
-        if !is_supported {
-            return Err(UNSUPPORTED);
-        }
         let hides = move |key: &Vec<u8>, value: &Bytes| owned.ask(predicate, key, value);
-        cache.invalidate_entries_if(hides).map(|_| OK).map_err(|_| FAULT)
+        match cache.invalidate_entries_if(hides) {
+            Ok(_) => Ok(OK),
+            Err(PredicateError::InvalidationClosuresDisabled) => Err(UNSUPPORTED),
+            Err(_) => Err(FAULT),
+        }
     };
     unsafe { with_cache(cache, call) }
 }
