@@ -6,7 +6,7 @@ use Rattle.moka_parts.specs.State.{Meaning}
 use Rattle.moka_calls.specs.Synchronous.{Synchronous}
 use Rattle.moka_segments.specs.Keys.{Belongs, EachKey, KeysBelong}
 use Rattle.moka_segment_laws.specs.Laws.{InsertWhereTheyBelong, KeysStay, OneSegmentEach}
-use Rattle.moka_segments.specs.Routing.{Routing, segment_of}
+use Rattle.moka_router.specs.Routing.{Routing, segment_of}
 use Rattle.moka_segments.specs.Segmented.{Segmented, IsAt, StepsAt, Steps}
 use Rattle.moka_segment_laws.proofs.Apart.{one_at, there_after}
 use Rattle.moka_segments.proofs.Keys.{keys_made}

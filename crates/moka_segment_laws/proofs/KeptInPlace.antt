@@ -16,7 +16,7 @@ use Rattle.moka_calls.specs.Synchronous.{Synchronous, Just, Posts, InsertsEntry,
 use Rattle.moka_segments.specs.Keys.{Belongs, InsertsOnly, KeepsKeys}
 use Rattle.moka_segment_laws.specs.Laws.{CallsByKeyKeepKeys, CallsOfAllKeepKeys, GetWithKeepsKeys, GetWithIfMadeKeepsKeys, GetWithIfNoErrorKeepsKeys, InsertWhereTheyBelong, KeepsKeysBy, Move, RegisteringKeepsKeys}
 use Rattle.moka_segment_laws.specs.Moves.{AreOneEach, IsMoveBy, IsMoveOfEach, MayRegister, for_all_calls}
-use Rattle.moka_segments.specs.Routing.{Routing}
+use Rattle.moka_router.specs.Routing.{Routing}
 use Rattle.moka_segments.specs.Segmented.{Segmented}
 use Rattle.moka_segments.specs.Steps.{Inserts, Gets, Removes, GetsWith, GetsWithIfMade, GetsWithIfNoError}
 use Rattle.moka_segment_laws.proofs.Belonging.{keys_stay}

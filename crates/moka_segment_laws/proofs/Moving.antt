@@ -25,7 +25,7 @@ use Rattle.moka_calls.proofs.Made.{made_nothing, made_one, befalls_more}
 use Rattle.moka_segment_laws.specs.Laws.{Move, MoveAfterMove}
 use Rattle.moka_segment_laws.specs.Moves.{for_all_calls, IsOneMove, AreOneEach, MayRegister, MovesBy, MovesGoOn, IsMoveBy, CallsByKeyAreMoves, GetWithIsMove, GetWithIfMadeIsMove, GetWithIfNoErrorIsMove, CallsOfAllAreMoves, RegisteringIsMoves}
 use Rattle.moka_segments.specs.Registering.{AllRegister, Registers, HasNoRoom}
-use Rattle.moka_segments.specs.Routing.{Routing, segment_of}
+use Rattle.moka_router.specs.Routing.{Routing, segment_of}
 use Rattle.moka_segments.specs.Segmented.{Segmented, Steps}
 use Rattle.moka_segments.specs.Steps.{Inserts, Gets, Removes, GetsWith, GetsWithIfMade, GetsWithIfNoError}
 use Rattle.moka_segments.specs.Whole.{AllRan, Hides}

@@ -17,7 +17,7 @@ use Rattle.moka_calls.specs.Laws.{anytime}
 use Rattle.moka_calls.specs.Synchronous.{Synchronous, Made, removed, invalidated}
 use Rattle.moka_segments.specs.Keys.{AreInOneSegment, Belongs, InsertsOnly, KeepsKeys, KeysBelong}
 use Rattle.moka_segments.specs.Registering.{AllRegister}
-use Rattle.moka_segments.specs.Routing.{Routing, segment_of}
+use Rattle.moka_router.specs.Routing.{Routing, segment_of}
 use Rattle.moka_segments.specs.Segmented.{Segmented, IsAt, Steps}
 use Rattle.moka_segments.specs.Steps.{Inserts, Gets, Removes, GetsWith, GetsWithIfMade, GetsWithIfNoError}
 use Rattle.moka_segments.specs.Whole.{AllRan, Hides}

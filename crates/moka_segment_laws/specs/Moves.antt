@@ -18,7 +18,7 @@ use Rattle.moka_calls.specs.Laws.{anytime}
 use Rattle.moka_calls.specs.Synchronous.{Synchronous, Made, Just, InsertsEntry, GetsValue, RemovesEntry, GetsOrInserts, GetsOrInsertsIfMade, GetsOrInsertsIfNoError, HandsOutMade, HandsOutIfMade, HandsOutIfNoError, hears_clones, own_run, removed, invalidated}
 use Rattle.moka_segment_laws.specs.Laws.{Move, MoveAfterMove, calls_in, replies_in}
 use Rattle.moka_segments.specs.Registering.{AllRegister}
-use Rattle.moka_segments.specs.Routing.{segment_of}
+use Rattle.moka_router.specs.Routing.{segment_of}
 use Rattle.moka_segments.specs.Segmented.{Segmented, IsAt, Steps}
 use Rattle.moka_segments.specs.Steps.{Inserts, Gets, Removes, GetsWith, GetsWithIfMade, GetsWithIfNoError}
 use Rattle.moka_segments.specs.Whole.{AllRan, Hides}

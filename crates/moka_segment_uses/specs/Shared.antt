@@ -5,7 +5,7 @@ use Rattle.moka_engine.specs.parts.InsertRefused.{InsertRefused}
 use Rattle.moka_engine.specs.parts.Instant.{Instant}
 use Rattle.moka_engine.specs.parts.OutOfMemory.{OutOfMemory}
 use Rattle.moka_engine.specs.State.{Meaning}
-use Rattle.moka_segments.specs.Routing.{segment_of}
+use Rattle.moka_router.specs.Routing.{segment_of}
 use Rattle.moka_segments.specs.Segmented.{Segmented, Steps}
 use Rattle.moka_segments.specs.Steps.{Gets, Inserts}
 use Rattle.moka_segments.specs.Whole.{AllRan}

@@ -19,7 +19,7 @@ use Rattle.moka_cache.proofs.Keeping.{listed_run_keeps}
 use Rattle.moka_engine.specs.Config.{Config}
 use Rattle.moka_segments.specs.Built.{IsNew}
 use Rattle.moka_segments.specs.Keys.{EachKey, HoldNone, InsertsOne, InsertsOnly, KeysBelong}
-use Rattle.moka_segments.specs.Routing.{Routing}
+use Rattle.moka_router.specs.Routing.{Routing}
 use Rattle.moka_segments.specs.Segmented.{Segmented}
 
 module _ {K V : Type 0} (Is : K → Type 0) (records : Records K V) (held : EachKey Is records) where

@@ -4,7 +4,7 @@ use Rattle.std.proofs.lemmas.Bool.{cases_lt}
 use Rattle.std.proofs.lemmas.List.{get_or_append_left, get_or_at}
 use Rattle.moka_engine.specs.Config.{Config}
 use Rattle.moka_calls.specs.Synchronous.{Synchronous}
-use Rattle.moka_segments.specs.Routing.{Routing}
+use Rattle.moka_router.specs.Routing.{Routing}
 use Rattle.moka_segments.specs.Built.{IsBuilt, AreBuilt, SumsTo, IsNew}
 use Rattle.moka_segments.specs.Segmented.{Segmented}
 use Rattle.moka_segments.proofs.Shares.{sum_is}

@@ -2,7 +2,7 @@
 use Rattle.std.proofs.Common.{◌≡◌, ℕ, ◌<◌, List, length, slice_index_or, slice_set, refl, subst, sym, ◌∙◌}
 use Rattle.std.proofs.lemmas.List.Elements.{at_read}
 use Rattle.moka_calls.specs.Synchronous.{Synchronous}
-use Rattle.moka_segments.specs.Routing.{Routing}
+use Rattle.moka_router.specs.Routing.{Routing}
 use Rattle.moka_segments.specs.Segmented.{Segmented, IsAt, Steps, Holds}
 
 -- an index of the router is one of as many segments

@@ -7,7 +7,7 @@ use Rattle.moka_parts.specs.declared.notification.RemovalCause.{RemovalCause}
 use Rattle.moka_parts.specs.declared.policy.Instant.{Instant}
 use Rattle.moka_calls.specs.Synchronous.{Synchronous}
 use Rattle.moka_segments.specs.Registering.{AllRegister, Registers, HasNoRoom}
-use Rattle.moka_segments.specs.Routing.{Routing}
+use Rattle.moka_router.specs.Routing.{Routing}
 use Rattle.moka_segments.specs.Segmented.{Segmented}
 use Rattle.moka_segments.proofs.Each.{written_back}
 use Rattle.moka_segments.proofs.Listed.{all_of}

@@ -1,7 +1,7 @@
 -- The parts of a capacity sum to it.
 use Rattle.std.proofs.Common.{◌≡◌, ℕ, suc, ◌+◌, ◌*◌, ◌/◌, ◌%◌, ◌<◌, min, List, [], ◌∷◌, length, slice_index_or, Some, refl, ap, ◌∙◌, arith}
 use Rattle.moka_calls.specs.Synchronous.{Synchronous}
-use Rattle.moka_segments.specs.Routing.{share}
+use Rattle.moka_router.specs.Routing.{share}
 use Rattle.moka_segments.specs.Whole.{both, whole_capacity}
 
 -- the sum of the first parts

@@ -2,7 +2,7 @@
 use Rattle.std.specs.Prelude.{◌≡◌, ℕ, ◌<◌, ◌≤◌, List, length, Option, Some, None, slice_index_or, unwrap_or, ⊤}
 use Rattle.moka_engine.specs.Config.{Config, new_engine}
 use Rattle.moka_calls.specs.Synchronous.{Synchronous, fresh}
-use Rattle.moka_segments.specs.Routing.{Routing, share}
+use Rattle.moka_router.specs.Routing.{Routing, share}
 use Rattle.moka_segments.specs.Segmented.{Segmented}
 use Rattle.moka_segments.specs.Whole.{whole_capacity}
 

@@ -6,7 +6,7 @@ use Rattle.moka_parts.specs.declared.calls.Call.TheVariants as call
 use Rattle.moka_parts.specs.declared.records.Record.{Record}
 use Rattle.moka_parts.specs.Records.{Records}
 use Rattle.moka_calls.specs.Synchronous.{Synchronous}
-use Rattle.moka_segments.specs.Routing.{Routing, segment_of}
+use Rattle.moka_router.specs.Routing.{Routing, segment_of}
 use Rattle.moka_segments.specs.Segmented.{Segmented, IsAt}
 
 -- this is so of the key of each record

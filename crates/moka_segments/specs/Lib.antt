@@ -1,4 +1,3 @@
-pub mod Routing
 pub mod Segmented
 pub mod Steps
 pub mod Whole

@@ -1,7 +1,7 @@
 -- Synchronous caches side by side, and what a call makes of one of them.
 use Rattle.std.specs.Prelude.{◌≡◌, ℕ, ◌<◌, List, length, slice_index_or, slice_set}
 use Rattle.moka_calls.specs.Synchronous.{Synchronous}
-use Rattle.moka_segments.specs.Routing.{Routing}
+use Rattle.moka_router.specs.Routing.{Routing}
 
 -- the segments, and which keys are whose
 pub record Segmented (K V S X L P W : Type 0) : Type 0 where

@@ -3,7 +3,6 @@ ghost use Rattle.std.specs.Prelude.{◌≡◌, ◌<◌, ℕ, IfOk, length, max};
 ghost use Rattle.moka_segments.specs.Built.{IsNew, IsSegment, SumsTo, with_share};
 ghost use Rattle.moka_segments.specs.Keys.{HoldNone};
 
-use crate::router::Router;
 use crate::segmented::SegmentedCache;
 use moka_cache::Cache;
 use moka_engine::config::{CacheConfig, DefaultHasher};
@@ -11,6 +10,7 @@ use moka_parts::closures::{PredicateFn, Weigher};
 use moka_parts::error::OutOfMemory;
 use moka_parts::notification::Listener;
 use moka_parts::policy::{Expiry, Instant};
+use moka_router::Router;
 use std::alloc::Global;
 use std::hash::{BuildHasher, Hash};
 

@@ -4,10 +4,9 @@
 pub mod building;
 pub mod iter;
 pub mod predicates;
-pub mod router;
 pub mod segmented;
 pub mod whole;
 
+pub use moka_router::Router;
 pub use predicates::RegisterRefused;
-pub use router::Router;
 pub use segmented::SegmentedCache;

@@ -4,11 +4,10 @@ ghost use Rattle.moka_parts.specs.Calls.{ContainsStep};
 ghost use Rattle.moka_parts.specs.Hashing.{key_hash};
 ghost use Rattle.moka_parts.specs.Records.{record_of_key};
 ghost use Rattle.moka_calls.specs.Synchronous.{meaning_of, removed, invalidated, taken_out};
-ghost use Rattle.moka_segments.specs.Routing.{segment_of};
+ghost use Rattle.moka_router.specs.Routing.{segment_of};
 ghost use Rattle.moka_segments.specs.Segmented.{Holds, HoldsIfThere, IsAt, Steps as StepsIn};
 ghost use Rattle.moka_segments.specs.Steps.{Inserts, Gets, Removes, GetsWith, GetsWithIfMade, GetsWithIfNoError};
 
-use crate::router::Router;
 use moka_cache::{Cache, GetWithRefused, NotTold};
 use moka_engine::config::DefaultHasher;
 use moka_parts::closures::{NoPredicate, NoWeigher, PredicateFn, Weigher};
@@ -16,6 +15,7 @@ use moka_parts::error::{InsertRefused, OutOfMemory};
 use moka_parts::housekeeper::Clock;
 use moka_parts::notification::{Listener, NoListener};
 use moka_parts::policy::{Expiry, Instant, NoExpiry};
+use moka_router::Router;
 use std::hash::{BuildHasher, Hash};
 use std::marker::Model;
 

@@ -7,7 +7,8 @@ ghost use Rattle.moka_segments.specs.Segmented.{Holds};
 ghost use Rattle.moka_segments.specs.Whole.{AllRan, Hides, IsWithinWhole, both, both_stats, saturated, total, total_stats, whole_capacity};
 
 use crate::segmented::SegmentedCache;
-use moka_cache::{Cache, Stats};
+use moka_cache::Stats;
+use moka_each::{invalidate_each, run_each};
 use moka_parts::closures::{PredicateFn, Weigher};
 use moka_parts::housekeeper::Clock;
 use moka_parts::notification::Listener;
@@ -95,7 +96,7 @@ impl<
         ensures routing { self.new.routing ≡ self.old.routing }
         ensures each { AllZip (Hides L.tells now) self.old.segments self.new.segments }
     {
-        Self::hide_each(&mut self.segments, now);
+        invalidate_each(&mut self.segments, now);
     }
 
     /// Runs maintenance of each segment in turn, without a time limit. The answer tells whether more is left of any.
@@ -112,39 +113,7 @@ impl<
             result clock.new self.old.segments self.new.segments }
         ensures within { IsWithinWhole (whole_capacity self.new.segments) self.new.segments }
     {
-        Self::run_each(&mut self.segments, now, clock)
-    }
-
-    // Hides what was written or read before the moment, in each.
-    fn hide_each(segments: &mut [Cache<K, V, X, L, P, W, S>], now: Instant)
-        ensures { AllZip (Hides L.tells now) segments.old segments.new }
-    {
-        let Some((first, rest)) = segments.split_first_mut() else {
-            return;
-        };
-        first.invalidate_all(now);
-        Self::hide_each(rest, now);
-    }
-
-    // Runs maintenance of each, and tells whether more is left of any.
-    fn run_each<C: Clock>(
-        segments: &mut [Cache<K, V, X, L, P, W, S>],
-        now: Instant,
-        clock: &mut C,
-    ) -> bool
-    where
-        K: Drop,
-        V: Drop,
-        P: Drop,
-        ensures { AllRan (meaning_of K.eq L.tells P.says W.weighs C.reads X.created X.read X.updated) now clock.old
-            result clock.new segments.old segments.new }
-    {
-        let Some((first, rest)) = segments.split_first_mut() else {
-            return false;
-        };
-        let more = first.run_pending_tasks(now, clock);
-        let others = Self::run_each(rest, now, clock);
-        more | others
+        run_each(&mut self.segments, now, clock)
     }
 }
 

@@ -2,7 +2,6 @@
 //! A new segmented cache. moka: `sync::builder`, `build` with `segments`.
 use crate::support::prelude::*;
 
-use crate::engine::moka_segments::router::Router;
 use crate::engine::moka_segments::segmented::SegmentedCache;
 use crate::engine::moka_cache::Cache;
 use crate::engine::moka_engine::config::{CacheConfig, DefaultHasher};
@@ -10,6 +9,7 @@ use crate::engine::moka_parts::closures::{PredicateFn, Weigher};
 use crate::engine::moka_parts::error::OutOfMemory;
 use crate::engine::moka_parts::notification::Listener;
 use crate::engine::moka_parts::policy::{Expiry, Instant};
+use crate::engine::moka_router::Router;
 use crate::support::alloc::Global;
 use crate::support::hash::{BuildHasher, Hash};
 

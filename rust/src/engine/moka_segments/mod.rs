@@ -5,10 +5,9 @@ use crate::support::prelude::*;
 pub mod building;
 pub mod iter;
 pub mod predicates;
-pub mod router;
 pub mod segmented;
 pub mod whole;
 
+pub use crate::engine::moka_router::Router;
 pub use predicates::RegisterRefused;
-pub use router::Router;
 pub use segmented::SegmentedCache;

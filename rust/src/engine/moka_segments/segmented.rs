@@ -2,7 +2,6 @@
 //! The segmented cache, and its calls by key. moka: `sync::segment`.
 use crate::support::prelude::*;
 
-use crate::engine::moka_segments::router::Router;
 use crate::engine::moka_cache::{Cache, GetWithRefused, NotTold};
 use crate::engine::moka_engine::config::DefaultHasher;
 use crate::engine::moka_parts::closures::{NoPredicate, NoWeigher, PredicateFn, Weigher};
@@ -10,6 +9,7 @@ use crate::engine::moka_parts::error::{InsertRefused, OutOfMemory};
 use crate::engine::moka_parts::housekeeper::Clock;
 use crate::engine::moka_parts::notification::{Listener, NoListener};
 use crate::engine::moka_parts::policy::{Expiry, Instant, NoExpiry};
+use crate::engine::moka_router::Router;
 use crate::support::hash::{BuildHasher, Hash};
 
 /// Synchronous caches side by side. A key's hash names the one that the key belongs to, and each call by key is that

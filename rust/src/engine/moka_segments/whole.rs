@@ -3,7 +3,8 @@
 use crate::support::prelude::*;
 
 use crate::engine::moka_segments::segmented::SegmentedCache;
-use crate::engine::moka_cache::{Cache, Stats};
+use crate::engine::moka_cache::Stats;
+use crate::engine::moka_each::{invalidate_each, run_each};
 use crate::engine::moka_parts::closures::{PredicateFn, Weigher};
 use crate::engine::moka_parts::housekeeper::Clock;
 use crate::engine::moka_parts::notification::Listener;
@@ -81,7 +82,7 @@ impl<
     /// call.
     pub fn invalidate_all(&mut self, now: Instant)
     {
-        Self::hide_each(&mut self.segments, now);
+        invalidate_each(&mut self.segments, now);
     }
 
     /// Runs maintenance of each segment in turn, without a time limit. The answer tells whether more is left of any.
@@ -90,32 +91,7 @@ impl<
     /// all. A snapshot of a segment then leaves no visible entry out.
     pub fn run_pending_tasks<C: Clock>(&mut self, now: Instant, clock: &mut C) -> bool
     {
-        Self::run_each(&mut self.segments, now, clock)
-    }
-
-    // Hides what was written or read before the moment, in each.
-    fn hide_each(segments: &mut [Cache<K, V, X, L, P, W, S>], now: Instant)
-    {
-        let Some((first, rest)) = segments.split_first_mut() else {
-            return;
-        };
-        first.invalidate_all(now);
-        Self::hide_each(rest, now);
-    }
-
-    // Runs maintenance of each, and tells whether more is left of any.
-    fn run_each<C: Clock>(
-        segments: &mut [Cache<K, V, X, L, P, W, S>],
-        now: Instant,
-        clock: &mut C,
-    ) -> bool
-    {
-        let Some((first, rest)) = segments.split_first_mut() else {
-            return false;
-        };
-        let more = first.run_pending_tasks(now, clock);
-        let others = Self::run_each(rest, now, clock);
-        more | others
+        run_each(&mut self.segments, now, clock)
     }
 }
 

@@ -1,5 +1,5 @@
 use Rattle.std.proofs.Common.{ap, max, ◌≡◌}
-use Rattle.moka_segments.specs.Routing.{Routing}
+use Rattle.moka_router.specs.Routing.{Routing}
 use Rattle.moka_segments.proofs.NewSegments.{new_by_its_own}
 use Rattle.moka_segments.proofs.building.SegmentedCache+K+V+X+L+P+W.build.Goals as goal
 

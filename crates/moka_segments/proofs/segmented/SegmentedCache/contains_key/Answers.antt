@@ -1,4 +1,4 @@
-use Rattle.moka_segments.specs.Routing.{segment_of}
+use Rattle.moka_router.specs.Routing.{segment_of}
 use Rattle.moka_segments.proofs.OneSegment.{holds_in}
 use Rattle.moka_parts.specs.Hashing.{key_hash}
 use Rattle.moka_segments.proofs.segmented.SegmentedCache.contains_key.Goals as goal

@@ -1,6 +1,6 @@
 use Rattle.std.proofs.Common.{◌∙◌}
 use Rattle.std.proofs.lemmas.List.{length-set}
-use Rattle.moka_segments.specs.Routing.{segment_of}
+use Rattle.moka_router.specs.Routing.{segment_of}
 use Rattle.moka_segments.proofs.OneSegment.{steps_in, within_all}
 use Rattle.moka_parts.specs.Hashing.{key_hash}
 use Rattle.moka_segments.proofs.segmented.SegmentedCache.insert.Goals as goal

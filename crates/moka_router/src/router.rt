@@ -1,6 +1,6 @@
 //! Which segment a key belongs to. moka: `sync::segment`, `select`.
 ghost use Rattle.std.specs.Prelude.{◌≡◌, ◌<◌, max};
-ghost use Rattle.moka_segments.specs.Routing.{segment_of, share};
+ghost use Rattle.moka_router.specs.Routing.{segment_of, share};
 ghost use Rattle.moka_parts.specs.Hashing.{key_hash};
 
 use std::hash::{BuildHasher, Hash};
@@ -15,7 +15,7 @@ pub struct Router<S> {
 
 impl<S> Model for Router<S> {
     ghost use Rattle.std.specs.Prelude.{◌<◌, ◌^◌};
-    ghost use Rattle.moka_segments.specs.Routing.{Routing};
+    ghost use Rattle.moka_router.specs.Routing.{Routing};
 
     ghost Value = { Routing S };
 
