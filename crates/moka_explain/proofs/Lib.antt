@@ -1,2 +1,4 @@
 pub mod Looked
 pub mod Room
+pub mod Evicted
+pub mod Ran

@@ -1,11 +1,9 @@
 -- What leaves in a run, and was visible at the run's moment, leaves to make room.
-use Rattle.std.proofs.Common.{◌≡◌, refl, ℕ, zero, suc, Bool, true, false, ◌||◌, ◌&&◌, ◌==◌, true≢false, if◌then◌else◌, List, [], ◌∷◌, ◌++◌, Option, Some, None, option_map, option_to_list, ap, sym, ◌∙◌, subst, ◌⊎◌, inl, inr, unwrap_or, slice_get, remove, Contains, MatchBool}
-use Rattle.std.specs.Duration.{as_nanos}
+use Rattle.std.proofs.Common.{◌≡◌, refl, ℕ, zero, suc, Bool, true, false, ◌||◌, ◌&&◌, ◌==◌, true≢false, if◌then◌else◌, List, [], ◌∷◌, ◌++◌, Option, Some, None, option_map, option_to_list, ap, sym, ◌∙◌, subst, ◌⊎◌, inl, inr, unwrap_or, remove, Contains}
 use Rattle.std.specs.Option.{option_map_or}
 use Rattle.std.specs.FinMap.{get}
 use Rattle.std.specs.FinMap as finite
 use Rattle.std.proofs.lemmas.List.Elements.{Contains-append_left, Contains-append_right, Contains-append_cases, Contains-push}
-use Rattle.moka_parts.specs.declared.calls.Reply.{Reply}
 use Rattle.moka_parts.specs.declared.notification.RemovalCause.{RemovalCause}
 use Rattle.moka_parts.specs.declared.notification.RemovalCause.TheVariants.{Size, Expired, Explicit, Replaced}
 use Rattle.moka_parts.specs.declared.policy.EvictionPolicy.{EvictionPolicy}
@@ -15,43 +13,28 @@ use Rattle.moka_parts.specs.declared.records.Operation.TheVariants.{Upsert, Remo
 use Rattle.moka_parts.specs.declared.records.Record.{Record}
 use Rattle.moka_parts.specs.declared.records.Registered.{Registered}
 use Rattle.moka_parts.specs.declared.records.Ticketed.{Ticketed}
-use Rattle.moka_parts.specs.declared.calls.Call.TheVariants as call
-use Rattle.moka_parts.specs.declared.calls.Reply.TheVariants as reply
-use Rattle.moka_parts.specs.Calls.{KeeperRun, Unchanged, keeper_terms}
-use Rattle.moka_parts.specs.Drives.{Drives}
-use Rattle.moka_parts.specs.Housekeeping.{is_due}
-use Rattle.moka_parts.specs.Maintenance.{Choice, Removes, MovesToBack, Drops, Freedom, Terms, Course, DoesNothing, RunsBy, AreFree, AreJustified, HasCause, after_choice, after_choices, left_by_choice, left_by_choices, after_queued_reads, before_steps, at_end, left_in_run, tests_of}
-use Rattle.moka_parts.specs.Runs.{Engine, CallStep, PromisedRun, AreSteps, calls_of, last_state}
+use Rattle.moka_parts.specs.Maintenance.{Choice, Removes, MovesToBack, Drops, Freedom, AreFree, AreJustified, HasCause, after_choice, after_choices, left_by_choice, left_by_choices, after_queued_reads, before_steps, at_end, left_in_run, tests_of}
 use Rattle.moka_parts.specs.Records.{Records, Notice}
-use Rattle.moka_parts.specs.State.{State, Contents, Events, contents, is_disabled}
+use Rattle.moka_parts.specs.State.{State, Contents, contents}
 use Rattle.moka_parts.specs.Visibility.{Covers, SomeCovers, IsVisible, has_lapsed, is_expired, is_past_live, is_past_idle, is_written_before, is_read_before}
 use Rattle.moka_parts.specs.Writes.{Fate, Ignored, Overtaken, Counted, Admitted, TooHeavy, Preferred, Refused, fate, with_applied, without_records, with_moved, rejected, after_fate, after_write, after_writes, leaves_for_size, left_with, left_by_rejection, left_by_fate, left_by_write, left_by_writes}
 use Rattle.moka_parts.proofs.Maps.{same_or_apart, get_inserted, get_past_insert, get_past_remove}
-use Rattle.moka_laws.proofs.Kept.{run_cases}
 use Rattle.moka_laws.proofs.RunKeeps.{reads_keep}
 use Rattle.moka_laws.proofs.Scanned.{not_one_covers}
-use Rattle.moka_play.specs.Played.{ScriptState, ScriptStep, script_meaning}
-use Rattle.moka_script.specs.declared.key_range.KeyRange.{KeyRange}
-use Rattle.moka_script.specs.declared.rules.Rule.{Rule}
-use Rattle.moka_script.specs.declared.sources.CountedIds.{CountedIds}
-use Rattle.moka_script.specs.declared.weigher.NumberWeigher.{NumberWeigher}
-use Rattle.moka_script.specs.Notices.{Kept}
-use Rattle.moka_script.specs.Calls.{CallText}
-use Rattle.moka_explain.specs.Explained.{LeavesForRoom, MakesRoom, IsMadeRoomFor}
 
 -- ---- records that stay, but for the applied generation, or leave to make room
 
 module _ {K V : Type 0} where
   -- it stays
-  abbrev Stays : Records K V → ℕ → Record K V → Type 0
+  abbrev pub Stays : Records K V → ℕ → Record K V → Type 0
   Stays records n r = (g : ℕ) × (get records n ≡ Some (record r { applied = g }))
 
   -- it stays, or its notice says that it leaves to make room
-  abbrev Settled : Records K V → List (Notice K V) → ℕ → Record K V → Type 0
+  abbrev pub Settled : Records K V → List (Notice K V) → ℕ → Record K V → Type 0
   Settled after left n r = Stays after n r ⊎ Contains left (leaves_for_size r)
 
   -- of two records at one number
-  same_at : (records : Records K V) (n k : ℕ) (r q : Record K V) → get records n ≡ Some r → get records k ≡ Some q → n ≡ k → r ≡ q
+  pub same_at : (records : Records K V) (n k : ℕ) (r q : Record K V) → get records n ≡ Some r → get records k ≡ Some q → n ≡ k → r ≡ q
   same_at records n k r q there here same = ap (λ (o : Option (Record K V)). unwrap_or o r) (sym there ∙ ap (get records) same ∙ here)
 
   -- one change after another
@@ -74,7 +57,7 @@ module _ {K V : Type 0} where
   ]
 
   -- what makes room for another
-  victims : (gone : List Member) (records : Records K V) (n : ℕ) (r : Record K V) → get records n ≡ Some r → (get (without_records gone records) n ≡ Some r) ⊎ Contains (left_with gone records) (leaves_for_size r)
+  pub victims : (gone : List Member) (records : Records K V) (n : ℕ) (r : Record K V) → get records n ≡ Some r → (get (without_records gone records) n ≡ Some r) ⊎ Contains (left_with gone records) (leaves_for_size r)
   victims [] records n r there = inl there
   victims (a ∷ gone) records n r there = elim (same_or_apart n a.number) [
     | inl same ↦ inr (Contains-append_left (option_to_list (option_map leaves_for_size (get records a.number))) (left_with gone (finite.remove records a.number)) (leaves_for_size r)
@@ -156,7 +139,7 @@ from_remove (y ∷ xs) (suc i) x there = elim (Contains-append_cases (y ∷ []) 
 
 module _ {K V X P W : Type 0} (says : P → K → V → Bool → Type 0) (s : State K V X P W) (now : ℕ) where
   -- none of the predicates covers it
-  abbrev Spares : List (Registered P) → Record K V → Type 0
+  abbrev pub Spares : List (Registered P) → Record K V → Type 0
   Spares ps r = (p : Registered P) → Contains ps p → Covers says p r → ⊥
 
   one_covers : (ps : List (Registered P)) (r : Record K V) → SomeCovers says ps r → Spares ps r → ⊥
@@ -176,7 +159,7 @@ module _ {K V X P W : Type 0} (says : P → K → V → Bool → Type 0) (s : St
       go Size own live idle written read has = refl
       go Replaced own live idle written read has = absurd has
 
-  by_steps : (c : Contents K V) (ps : List (Registered P)) (xs : List Choice) (n : ℕ) (r : Record K V) → has_lapsed s.settings s.invalid_before r now ≡ false → Spares ps r → AreJustified says (tests_of s now) c ps xs → get c.records n ≡ Some r → Settled (after_choices c xs).records (left_by_choices c xs) n r
+  pub by_steps : (c : Contents K V) (ps : List (Registered P)) (xs : List Choice) (n : ℕ) (r : Record K V) → has_lapsed s.settings s.invalid_before r now ≡ false → Spares ps r → AreJustified says (tests_of s now) c ps xs → get c.records n ≡ Some r → Settled (after_choices c xs).records (left_by_choices c xs) n r
   by_steps c ps [] n r shown spared are there = inl (r.applied, there)
   by_steps c ps (Removes k cause ∷ xs) n r shown spared are there = elim (same_or_apart n k) [
     | inl same ↦
@@ -206,45 +189,3 @@ module _ {K V X P W : Type 0} (says : P → K → V → Bool → Type 0) (s : St
         | inl still ↦ let both : None ≡ Some (record r { applied = still.0 }) = sym gone ∙ still.1 in cc
         | inr left ↦ left
       ]
-
-module _ {K V X P W : Type 0} (says : P → K → V → Bool → Type 0) (s t : State K V X P W) where
-  -- so it is in each run
-  pub room_in_run : (More : Freedom → Type 0) (terms : Terms) (course : Course) (notices : List (Notice K V)) (n : ℕ) (r : Record K V) → get s.records n ≡ Some r → IsVisible says s r terms.now → get t.records n ≡ None →
-      MatchBool (is_disabled s.capacity) (DoesNothing s course notices t) ((ch : Freedom) × RunsBy says s terms ch course notices t × More ch) → LeavesForRoom says s t terms.now r
-  room_in_run More terms course notices n r there visible gone = run_cases (LeavesForRoom says s t terms.now r) s t More says terms course notices
-      (λ off nothing. let both : None ≡ Some r = sym gone ∙ ap (λ (x : State K V X P W). get x.records n) nothing.0 ∙ there in cc)
-      (λ ch on by more. (ch, by.0, ap (λ (x : State K V X P W). x.records) by.1, leaves_to_make_room says s terms.now ch by.0 n r there visible (sym (ap (λ (x : State K V X P W). get x.records n) by.1) ∙ gone)))
-
-  -- what is still there has not left
-  not_left : (n : ℕ) (r : Record K V) (A : Type 0) → t.records ≡ s.records → get s.records n ≡ Some r → get t.records n ≡ None → A
-  not_left n r A same there gone = let both : None ≡ Some r = sym gone ∙ ap (λ (m : Records K V). get m n) same ∙ there in cc
-
--- ---- of the calls of a script
-
-by_call : (s : ScriptState) (c : CallText) (a : Reply ℕ (List ℕ) KeyRange) (e : Events ℕ (List ℕ)) (t : ScriptState) → CallStep script_meaning (PromisedRun script_meaning.says script_meaning.read) s c a e t → IsMadeRoomFor c s t
-by_call s (call.Run now limit repeats batch) (reply.Run more) e t step = λ n r there visible gone.
-    room_in_run script_meaning.says s t _ (record { now = now.0; limit = option_map as_nanos limit; batch = batch }) step.0 e.notices n r there visible gone step.1.0
-by_call s (call.RunIfDue now) reply.RunIfDue e t step = go (is_due s.housekeeping _ now.0) step
-  where
-    go : (b : Bool) → MatchBool b (KeeperRun (PromisedRun script_meaning.says script_meaning.read) s now.0 e t) (Unchanged s e t) → MakesRoom now.0 s t
-    go true (answer, mid, (course, run, is, told), same) = λ n r there visible gone.
-        let records : t.records ≡ mid.records = ap (λ (x : ScriptState). x.records) same in
-        let left = room_in_run script_meaning.says s mid _ (keeper_terms s.settings now.0) course e.notices n r there visible (sym (ap (λ (m : Records ℕ (List ℕ)). get m n) records) ∙ gone) run.0 in
-        (left.0, left.1, records ∙ left.2, left.3)
-    go false same = λ n r there visible gone. not_left script_meaning.says s t n r (LeavesForRoom script_meaning.says s t now.0 r) (ap (λ (x : ScriptState). x.records) same.0) there gone
-by_call s (call.Run now limit repeats batch) a e t step = absurd step
-by_call s (call.RunIfDue now) a e t step = absurd step
-by_call s c a e t step = tt
-
-module _ {S : Type 0} (c : CallText) (a : Reply ℕ (List ℕ) KeyRange) (old new : Engine ℕ (List ℕ) S (List Rule) Kept KeyRange NumberWeigher) where
-  by_steps_of : (steps : List ScriptStep) → calls_of steps ≡ c ∷ [] → AreSteps script_meaning (PromisedRun script_meaning.says script_meaning.read) old.state steps → new.state ≡ last_state old.state steps → IsMadeRoomFor c old.state new.state
-  by_steps_of [] made are ends = cc
-  by_steps_of (x ∷ []) made are ends =
-      let same : x.call ≡ c = ap (λ (cs : List CallText). unwrap_or (slice_get cs 0) c) made in
-      subst (λ (k : CallText). IsMadeRoomFor k old.state new.state) same
-      (subst (λ (t : ScriptState). IsMadeRoomFor x.call old.state t) (sym ends) (by_call old.state x.call x.reply x.events x.after are.0))
-  by_steps_of (x ∷ y ∷ zs) made are ends = cc
-
-  -- one call that a script makes
-  pub call_makes_room : (clock clock_after : List ℕ) (ids ids_after : CountedIds) → Drives script_meaning (c ∷ []) (a ∷ []) old clock ids new clock_after ids_after → IsMadeRoomFor c old.state new.state
-  call_makes_room clock clock_after ids ids_after d = by_steps_of d.steps d.is_run.calls_made d.is_run.are_steps (ap (λ (e : Engine ℕ (List ℕ) S (List Rule) Kept KeyRange NumberWeigher). e.state) d.is_run.ends)

@@ -1,2 +1,3 @@
 pub mod Looks
+pub mod Evictions
 pub mod Explained

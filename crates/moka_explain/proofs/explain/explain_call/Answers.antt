@@ -1,4 +1,4 @@
-use Rattle.moka_explain.proofs.Room.{call_makes_room}
+use Rattle.moka_explain.proofs.Ran.{call_makes_room}
 use Rattle.moka_explain.proofs.explain.explain_call.Goals as goal
 
 pub returns-in_ok-reply-in-All-clause-room : goal.returns-in_ok-reply-in-All-clause-room
