@@ -1,4 +1,4 @@
-//! Tests of the synchronous cache's calls, and nothing else.
+//! Tests of the engine and of the synchronous cache's calls, and nothing else.
 #![tactic(auto)]
 
 #[cfg(test)]
@@ -7,6 +7,8 @@ mod answers;
 mod cache;
 #[cfg(test)]
 mod config;
+#[cfg(test)]
+mod engine;
 #[cfg(test)]
 mod makers;
 #[cfg(test)]

@@ -1,5 +1,6 @@
 //! What a cache is made with, and how often its expiry is asked.
-use crate::steps::{OneId, assert_right, settle};
+use crate::engine::steps::{assert_right, settle};
+use crate::predicates::OneId;
 use moka_engine::{
     CacheConfig, Engine, EvictionPolicy, Expiry, FixedClock, HousekeeperConfig, Instant,
     NoListener, NoPredicate, Policy, Weigher,
