@@ -1,4 +1,4 @@
 pub mod Looked
 pub mod Room
-pub mod Evicted
+pub mod Grounds
 pub mod Ran

@@ -1,5 +1,5 @@
 -- What explains the reply to a call.
-use Rattle.std.specs.Prelude.{◌≡◌, ℕ, Bool, List, length, map, Contains, IsPermutation, Some, None, true, if◌then◌else◌}
+use Rattle.std.specs.Prelude.{◌≡◌, ℕ, Bool, List, length, map, Contains, IsPermutation, Some, None, if◌then◌else◌}
 use Rattle.std.specs.List.{AllByRecursion}
 use Rattle.std.specs.List.Sorted.{IsNonDecreasing}
 use Rattle.std.specs.FinMap.{get, values}
@@ -7,7 +7,6 @@ use Rattle.moka_parts.specs.declared.calls.Call.TheVariants as call
 use Rattle.moka_parts.specs.declared.policy.Instant.{Instant}
 use Rattle.moka_parts.specs.declared.records.Record.{Record}
 use Rattle.moka_parts.specs.Maintenance.{Freedom, AreFree, at_end, left_in_run}
-use Rattle.moka_parts.specs.Records.{is_applied}
 use Rattle.moka_parts.specs.State.{State}
 use Rattle.moka_parts.specs.Visibility.{IsVisible}
 use Rattle.moka_parts.specs.Writes.{leaves_for_size}
@@ -20,7 +19,7 @@ use Rattle.moka_explain.specs.declared.explain.Queued.{Queued}
 use Rattle.moka_explain.specs.declared.explain.Fates.{Fates}
 use Rattle.moka_explain.specs.declared.explain.Answer.{Answer}
 use Rattle.moka_explain.specs.declared.explain.Answer.TheVariants as answer
-use Rattle.moka_explain.specs.Evictions.{evicted_in_run}
+use Rattle.moka_explain.specs.Grounds.{HasGround}
 use Rattle.moka_explain.specs.Looks.{IsLook}
 
 -- what is worth asking about a call; where runs start by themselves, a get may make one
@@ -68,13 +67,12 @@ IsAnswer q s t a = ⊥
 
 -- ---- why an entry left that was visible
 
--- a run at the moment leads to these records, and the notice of the record in it says that it left to make room; by
--- eviction, if its last write had been applied before
+-- a run at the moment leads to these records, and the notice of the record in it says that it left to make room, on a
+-- ground: by eviction, if its last write had been applied before, and else by that or as its own write was rejected
 abbrev pub LeavesForRoom : {K V X P W : Type 0} → (P → K → V → Bool → Type 0) → State K V X P W → State K V X P W → ℕ →
     Record K V → Type 0
 LeavesForRoom says s t now r = (ch : Freedom) × AreFree says s now ch × (t.records ≡ (at_end s ch).records)
-    × Contains (left_in_run s ch) (leaves_for_size r)
-    × (is_applied r ≡ true → Contains (evicted_in_run s ch) (leaves_for_size r))
+    × Contains (left_in_run s ch) (leaves_for_size r) × HasGround s ch r
 
 -- each record that was visible at the moment and is gone left to make room
 abbrev pub MakesRoom : ℕ → ScriptState → ScriptState → Type 0

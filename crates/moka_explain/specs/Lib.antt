@@ -1,3 +1,3 @@
 pub mod Looks
-pub mod Evictions
+pub mod Grounds
 pub mod Explained

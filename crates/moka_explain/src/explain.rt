@@ -128,6 +128,7 @@ pub fn explain_call(
         IsAnswer (question_of automatic call) cache.old.state cache.new.state explained.answer) }
     ensures room { IfOk result (λ _. IsMadeRoomFor call cache.old.state cache.new.state) }
 {
+    cache.invariant_holds();
     match question_of(&call, automatic) {
         Question::Key { key, now } => {
             let look = look_at(cache, key, now);
