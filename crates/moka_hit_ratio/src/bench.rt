@@ -1,5 +1,8 @@
 //! The caches that a trace is played through, and what comes of it.
-ghost use Rattle.std.specs.Prelude.{◌≡◌, length, vec_len, IfOk};
+ghost use Rattle.std.specs.Prelude.{◌≡◌, Bool, length, vec_len, Some, IfOk};
+ghost use Rattle.moka_hit_ratio.specs.Reads.{CountsIf, IsKept};
+ghost use Rattle.moka_engine.specs.parts.EvictionPolicy.TheVariants.{Lru, TinyLfu};
+ghost use Rattle.moka_traces.specs.Fifo.{is_kept};
 
 use crate::read_through::ReadThrough;
 use anyhow::Result;
@@ -32,7 +35,13 @@ impl Drop for Caches {
 
 impl Caches {
     /// Empty caches.
-    fn new(alloc: Global, capacity: u64) -> Result<Self, OutOfMemory> {
+    fn new(alloc: Global, capacity: u64) -> Result<Self, OutOfMemory>
+        ensures tiny_lfu { IfOk result (λ c. (c.tiny_lfu.cache.engine.state.capacity ≡ Some capacity)
+            × (c.tiny_lfu.cache.engine.state.settings.policy ≡ TinyLfu)) }
+        ensures lru { IfOk result (λ c. (c.lru.cache.engine.state.capacity ≡ Some capacity)
+            × (c.lru.cache.engine.state.settings.policy ≡ Lru)) }
+        ensures fifo { IfOk result (λ c. c.fifo.capacity ≡ capacity) }
+    {
         let none = Tally::new();
         Ok(Caches {
             tiny_lfu: ReadThrough::new(alloc, capacity, EvictionPolicy::tiny_lfu())?,
@@ -48,8 +57,15 @@ impl Caches {
         })
     }
 
-    /// Reads a key through each.
-    fn read(&mut self, key: u64, is_counted: bool) -> Result<()> {
+    /// Reads a key through each, and counts what each has found, if that is asked for.
+    fn read(&mut self, key: u64, is_counted: bool) -> Result<()>
+        ensures tiny_lfu { IfOk result (λ _. (found : Bool) × IsKept self.old.tiny_lfu.cache.engine.state key found
+            × CountsIf is_counted found self.old.row.tiny_lfu self.new.row.tiny_lfu) }
+        ensures lru { IfOk result (λ _. (found : Bool) × IsKept self.old.lru.cache.engine.state key found
+            × CountsIf is_counted found self.old.row.lru self.new.row.lru) }
+        ensures fifo { IfOk result (λ _. CountsIf is_counted (is_kept key self.old.fifo.queue.items)
+            self.old.row.fifo self.new.row.fifo) }
+    {
         let tiny_lfu = self.tiny_lfu.read(key)?;
         let lru = self.lru.read(key)?;
         let fifo = self.fifo.read(key)?;
