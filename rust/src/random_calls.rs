@@ -311,7 +311,14 @@ fn call_by_key(cache: &mut Segments, plain: &mut Plain<u64>, key: u64, call: u64
             plain.0.remove(&key);
         }
         _ => {
-            let made = cache.get_with(key, || call, at, clock).ok();
+            let made = match call % 3 {
+                0 => cache.get_with(key, || call, at, clock).ok(),
+                1 => cache.optionally_get_with(key, || Some(call), at, clock).ok().flatten(),
+                _ => cache
+                    .try_get_with(key, || Ok::<_, ()>(call), at, clock)
+                    .ok()
+                    .and_then(Result::ok),
+            };
             assert_eq!(made, Some(seen.unwrap_or(call)));
             if seen.is_none() {
                 plain.put(&key, call, call);
@@ -376,15 +383,25 @@ fn full_segments_keep_to_their_capacity_and_find_no_old_value() {
     assert!(hits > CALLS / 50, "only {hits} look-ups found a value");
 }
 
+/// Also when it is saved, and another one made of that.
 #[test]
 fn a_full_cache_keeps_what_was_used_last() {
     // Keys with their values, least recently used first.
     let (mut numbers, mut plain) = (Numbers(11), Vec::new());
-    let config = CacheConfig::default().max_capacity(CAPACITY);
-    let config = config.eviction_policy(EvictionPolicy::lru());
-    let mut cache: Cache<u64, u64> = Cache::build(config, Global, Instant(0)).expect("memory");
+    let empty = |at: Instant| -> Cache<u64, u64> {
+        let config = CacheConfig::default().max_capacity(CAPACITY);
+        Cache::build(config.eviction_policy(EvictionPolicy::lru()), Global, at).expect("memory")
+    };
+    let mut cache = empty(Instant(0));
     for call in 0..CALLS {
         let (at, clock) = (Instant(call), &mut FixedClock(Instant(call)));
+        if numbers.below(10) == 0 {
+            let saved = cache.save(Global, at, clock).expect("memory");
+            cache = empty(at);
+            assert!(cache.restore(saved, at, clock).is_ok());
+            // A read counts once the write of its entry has been applied.
+            while cache.run_pending_tasks(at, clock) {}
+        }
         let key = numbers.below(KEYS);
         let place = plain.iter().position(|(kept, _)| *kept == key);
         let old = place.map(|place| plain.remove(place).1);

@@ -4,9 +4,12 @@
 //!
 //! - Panics of the caller's `Eq`. Look-ups and removals go by its calls with a test of the key, which compare keys only
 //!   while nothing is half changed; so a comparison that panics harms nothing (`ByTest`). An insert goes by the address
-//!   of the key that is kept, which is looked up before.
-//! - Makers. Its `get_with` is given one moment, at its start. A caller's maker may take longer than an entry lasts, so
-//!   here the value is put there at a moment after it, by `insert`; nor is a panic of the maker one in mid-call.
+//!   of the key that is kept, which is looked up before, by a key that stands for a test (`kept`): the engine hands out
+//!   no key by a test.
+//! - Makers and entry calls. Its `get_with`, `entry` and their kin look a key up and put it there in one call, by the
+//!   key's own `Eq` and at one moment, that of their start. Here a call looks it up by a test, and puts it under the key
+//!   that is kept; and a caller's maker may take longer than an entry lasts, so the value is put there at a moment after
+//!   it, by `insert`; nor is a panic of the maker one in mid-call.
 //! - The clock. If nothing can expire no call need read it, so this is not the cache that owns its clock.
 //! - Scans. Its `iter` hands out all entries at once; here a lock is held for one at a time, so its engine makes them.
 
@@ -81,6 +84,17 @@ impl<K: Eq + Hash, F: Fn(&Arc<K>) -> bool> KeyTest<Key<'static, K>> for ByTest<'
         let is_key = key.shared().is_some_and(&self.test);
         self.is_in_call.store(true, Relaxed);
         is_key
+    }
+}
+
+/// A test of the caller's in a call that changes nothing.
+struct Passing<'a, K>(Test<'a, K>);
+
+impl<K: Eq + Hash> KeyTest<Key<'static, K>> for Passing<'_, K> {
+    #[inline]
+    fn is_key(&self, key: &Key<'static, K>) -> bool {
+        note_comparison();
+        key.shared().is_some_and(|kept| (self.0)(kept))
     }
 }
 
@@ -367,7 +381,7 @@ impl<K: Eq + Hash + 'static, V> Shard<K, V> {
     }
 
     pub fn contains(&self, hash: u64, test: Test<'_, K>) -> bool {
-        self.cache.contains_key(&Key::sought(hash, &test), self.glance())
+        self.cache.contains_key_by(&Passing(test), hash, self.glance())
     }
 
     // A value for which memory was refused leaves at once.

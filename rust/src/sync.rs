@@ -216,6 +216,8 @@ where
         })
     }
 
+    // Makes a call for each shard. The engine's cache in segments, whose router names the shard of a key, has one owner
+    // of all; here one lock is held at a time.
     fn with_each(&self, mut call: impl FnMut(&mut Shard<K, V>)) {
         for place in &self.0.places.all {
             self.with(place, &mut call);

@@ -195,6 +195,24 @@ fn the_listener_is_told_between_the_runs_of_a_call() {
 }
 
 #[test]
+fn a_predicate_that_is_refused_makes_no_run() {
+    let told = Arc::new(AtomicU32::new(0));
+    let counts = Arc::clone(&told);
+    let cache = Cache::builder()
+        .shards(1)
+        .time_to_live(Duration::from_millis(1))
+        .eviction_listener(move |_, _, _| count(&counts))
+        .build();
+    cache.insert(0_u32, 0_u32);
+    // After this a run is due, which lets the entry leave.
+    thread::sleep(Duration::from_millis(400));
+    assert!(cache.invalidate_entries_if(|_, _| true).is_err());
+    assert_eq!(told.load(Ordering::SeqCst), 0);
+    cache.run_pending_tasks();
+    assert_eq!(told.load(Ordering::SeqCst), 1);
+}
+
+#[test]
 fn a_panic_within_a_call_keeps_no_notice_back() {
     let told = Arc::new(AtomicU32::new(0));
     let counts = Arc::clone(&told);
