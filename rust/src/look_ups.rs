@@ -1,10 +1,15 @@
-//! How often the calls of both caches hash, compare and look up a key that is there.
+//! How often the calls of both caches, and of the generated one, hash, compare and look up a key that is there.
 
+use crate::engine::moka_cache::{Cache, Op as Computed};
+use crate::engine::moka_engine::{CacheConfig, FixedClock, Instant};
 use crate::entry::Op;
 use crate::key::COMPARISONS;
+use crate::support::alloc::Global;
 use crate::{sync, unsync};
 use std::cell::Cell;
 use std::hash::{Hash, Hasher};
+
+type Generated = Cache<Counting, u32>;
 
 thread_local! {
     static HASHES: Cell<u32> = const { Cell::new(0) };
@@ -139,4 +144,75 @@ fn a_key_that_is_there_is_looked_up_once() {
     // What the closure saw may have changed when a shared cache puts a value there, or takes one out.
     calls!(sync, (1, 2, 3), (1, 2, 2));
     calls!(unsync, TO_PUT, (1, 1, 2));
+}
+
+/// Makes calls of the generated cache, whose one entry is there, and compares how often each hashed and compared it.
+#[test]
+fn the_generated_cache_looks_a_key_up_once() {
+    type Call = fn(&mut Generated, &mut FixedClock) -> bool;
+    const NOW: Instant = Instant(0);
+    let calls: [(&str, Call, (u32, u32)); 14] = [
+        ("get", |it, clock| it.get(&KEY, NOW, clock).is_ok(), (1, 1)),
+        ("contains_key", |it, _| it.contains_key(&KEY, NOW), (1, 1)),
+        ("insert", |it, clock| it.insert(KEY, 1, NOW, clock).is_ok(), (1, 1)),
+        ("remove", |it, clock| it.remove(&KEY, NOW, clock).is_ok(), (1, 1)),
+        (
+            "invalidate",
+            |it, clock| it.invalidate(&KEY, NOW, clock).is_ok(),
+            (1, 1),
+        ),
+        (
+            "get_with",
+            |it, clock| it.get_with(KEY, || 2, NOW, clock).is_ok(),
+            (1, 1),
+        ),
+        (
+            "optionally_get_with",
+            |it, clock| it.optionally_get_with(KEY, || None, NOW, clock).is_ok(),
+            (1, 1),
+        ),
+        (
+            "try_get_with",
+            |it, clock| it.try_get_with(KEY, || Err("no"), NOW, clock).is_ok(),
+            (1, 1),
+        ),
+        (
+            "or_insert",
+            |it, clock| it.entry(KEY).or_insert(2, NOW, clock).is_ok(),
+            (1, 1),
+        ),
+        (
+            "or_insert_with",
+            |it, clock| it.entry(KEY).or_insert_with(|| 2, NOW, clock).is_ok(),
+            (1, 1),
+        ),
+        (
+            "or_optionally_insert_with",
+            |it, clock| it.entry(KEY).or_optionally_insert_with(|| None, NOW, clock).is_ok(),
+            (1, 1),
+        ),
+        (
+            "or_try_insert_with",
+            |it, clock| it.entry(KEY).or_try_insert_with(|| Err("no"), NOW, clock).is_ok(),
+            (1, 1),
+        ),
+        (
+            "and_compute_with to nothing",
+            |it, clock| it.entry(KEY).and_compute_with(|_| Computed::Nop, NOW, clock).is_ok(),
+            (1, 1),
+        ),
+        // It looks the key up, and then puts it there.
+        (
+            "and_upsert_with",
+            |it, clock| it.entry(KEY).and_upsert_with(|_| 2, NOW, clock).is_ok(),
+            (1, 2),
+        ),
+    ];
+    for (name, call, cost) in calls {
+        let clock = &mut FixedClock(NOW);
+        let mut cache = Generated::build(CacheConfig::default(), Global, NOW).expect("memory");
+        assert!(cache.insert(KEY, 1, NOW, clock).is_ok());
+        let (hashes, equals, _) = counted(|| assert!(call(&mut cache, clock), "{name}"));
+        assert_eq!((hashes, equals), cost, "{name}");
+    }
 }

@@ -14,7 +14,7 @@ use std::io::Write;
 const HASH: u64 = 7;
 
 /// A text is put in twice and asked for, and a predicate is registered.
-const CALLS: [Row; 10] = [
+const CALLS: &[Row] = &[
     (Ask::Insert, "insert", "first", None),
     (Ask::Insert, "insert", "value", Some("first")),
     (Ask::Get, "get", "value", Some("value")),
@@ -28,7 +28,7 @@ const CALLS: [Row; 10] = [
 ];
 
 /// It is taken out again.
-const REMOVAL: [Row; 1] = [(Ask::Remove, "notify", "value", Some("value"))];
+const REMOVAL: &[Row] = &[(Ask::Remove, "notify", "value", Some("value"))];
 
 /// Counts its identifiers up.
 #[derive(Clone, Copy)]
@@ -165,9 +165,9 @@ impl Asked for Texts {
 pub fn make_rounds<W: Write>(out: &mut W, notes: &mut Notes, cache: &mut Texts) -> io::Result<()> {
     for number in 0..ROUNDS {
         let words = Words::new(notes.alloc, number);
-        let are_asked = are_made(notes, cache, "key", &CALLS, words);
+        let are_asked = are_made(notes, cache, "key", CALLS, words);
         let is_kept = number % 3 != 2;
-        let is_right = (is_kept || are_made(notes, cache, "key", &REMOVAL, words)) && are_asked;
+        let is_right = (is_kept || are_made(notes, cache, "key", REMOVAL, words)) && are_asked;
         finish(out, cache, words, is_right, None)?;
     }
     Ok(())

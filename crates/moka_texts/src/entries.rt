@@ -156,7 +156,7 @@ const CALLS: [(Ask, &str); 8] = [
 ];
 
 /// Nothing is answered and nothing inserted where makers decline and fail.
-const NOTHING: [Row; 3] = [
+const NOTHING: &[Row] = &[
     (Ask::Decline, "Cache::optionally_get_with", "", None),
     (Ask::Fail, "Cache::try_get_with", "", None),
     GONE,
@@ -212,7 +212,7 @@ pub fn make_rounds<W: Write>(out: &mut W, notes: &mut Notes, cache: &mut Cached)
     for number in 0..ROUNDS {
         let words = Words::new(notes.alloc, number);
         let are_asked = are_asked(notes, cache, words);
-        let is_nothing_made = are_made(notes, cache, "nothing", &NOTHING, words);
+        let is_nothing_made = are_made(notes, cache, "nothing", NOTHING, words);
         let are_computed = are_computed(notes, cache, words);
         let is_right = are_asked && is_nothing_made && are_computed;
         finish(out, cache, words, is_right, None)?;

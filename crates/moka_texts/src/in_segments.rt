@@ -3,7 +3,7 @@ use crate::calls::{Ask, Call, Row};
 use crate::engine::Ids;
 use crate::notes::{Notes, TRIES, Words};
 use crate::report::{Left, Refused, Report, Told, told_of};
-use crate::rounds::{Asked, ROUNDS, are_made, finish};
+use crate::rounds::{Asked, NONE, ROUNDS, are_made, finish};
 use moka_engine::{FixedClock, NoExpiry, NoPredicate};
 use moka_segments::SegmentedCache;
 use std::io;
@@ -13,7 +13,7 @@ use std::io::Write;
 pub type Segmented = SegmentedCache<String, String, NoExpiry, Report, NoPredicate>;
 
 /// A text is put in twice and asked for.
-const CALLS: [Row; 3] = [
+const CALLS: &[Row] = &[
     (Ask::Insert, "SegmentedCache::insert", "first", None),
     (
         Ask::Insert,
@@ -35,7 +35,7 @@ const MAKERS: [(Ask, &str); 3] = [
 ];
 
 /// A predicate is registered in each segment.
-const REGISTER: [Row; 1] = [(
+const REGISTER: &[Row] = &[(
     Ask::Register,
     "SegmentedCache::invalidate_entries_if",
     "",
@@ -43,14 +43,14 @@ const REGISTER: [Row; 1] = [(
 )];
 
 /// A text is taken out, in one of two ways.
-const REMOVAL: [Row; 1] = [(
+const REMOVAL: &[Row] = &[(
     Ask::Remove,
     "SegmentedCache::remove",
     "value",
     Some("value"),
 )];
 
-const INVALIDATION: [Row; 1] = [(
+const INVALIDATION: &[Row] = &[(
     Ask::Invalidate,
     "SegmentedCache::invalidate",
     "value",
@@ -181,15 +181,16 @@ pub fn make_rounds<W: Write>(
 ) -> io::Result<()> {
     for number in 0..ROUNDS {
         let words = Words::new(notes.alloc, number);
-        let is_got = are_made(notes, cache, "key", &CALLS, words);
+        let is_got = are_made(notes, cache, "key", CALLS, words);
         let is_found = is_made(notes, cache, words);
-        let is_registered = are_made(notes, cache, "key", &REGISTER, words);
+        let is_registered = are_made(notes, cache, "key", REGISTER, words);
         let listed = listed(notes, cache, words);
-        let is_taken_out = match number % 6 {
-            2 => are_made(notes, cache, "key", &REMOVAL, words),
-            5 => are_made(notes, cache, "key", &INVALIDATION, words),
-            _ => true,
+        let taken_out: &[Row] = match number % 6 {
+            2 => REMOVAL,
+            5 => INVALIDATION,
+            _ => NONE,
         };
+        let is_taken_out = are_made(notes, cache, "key", taken_out, words);
         let is_right = is_got && is_found && is_registered && is_taken_out;
         finish(out, cache, words, is_right, listed)?;
     }

@@ -13,16 +13,16 @@ use std::io::Write;
 const COUNT: u64 = 3;
 
 /// Texts are put in and found.
-const CALLS: [Row; 2] = [
+const CALLS: &[Row] = &[
     (Ask::InsertMany, "Cache::insert_many", "value", None),
     (Ask::GetMany, "Cache::get_many", "value", Some("value")),
 ];
 
 /// Others are not.
-const MISSES: [Row; 1] = [(Ask::GetMany, "Cache::get_many", "value", None)];
+const MISSES: &[Row] = &[(Ask::GetMany, "Cache::get_many", "value", None)];
 
 /// They are taken out.
-const REMOVAL: [Row; 1] = [(
+const REMOVAL: &[Row] = &[(
     Ask::InvalidateMany,
     "Cache::invalidate_many",
     "value",
@@ -178,11 +178,11 @@ fn visible(notes: &mut Notes, cache: &Cached, words: Words) -> Option<usize> {
 pub fn make_rounds<W: Write>(out: &mut W, notes: &mut Notes, cache: &mut Cached) -> io::Result<()> {
     for number in 0..ROUNDS {
         let words = Words::new(notes.alloc, number);
-        let are_got = are_made(notes, cache, "many", &CALLS, words);
-        let are_missed = are_made(notes, cache, "none", &MISSES, words);
+        let are_got = are_made(notes, cache, "many", CALLS, words);
+        let are_missed = are_made(notes, cache, "none", MISSES, words);
         let visible = visible(notes, cache, words);
         let are_kept = number % 2 == 0;
-        let are_taken_out = are_kept || are_made(notes, cache, "many", &REMOVAL, words);
+        let are_taken_out = are_kept || are_made(notes, cache, "many", REMOVAL, words);
         let is_right = are_got && are_missed && are_taken_out;
         finish(out, cache, words, is_right, visible)?;
     }

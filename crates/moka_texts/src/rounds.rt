@@ -9,6 +9,9 @@ use std::io::Write;
 /// How many rounds each cache is asked in.
 pub const ROUNDS: u64 = 12;
 
+/// No calls.
+pub const NONE: &[Row] = &[];
+
 /// What is asked.
 pub trait Asked {
     /// Whether the call answers as it should.

@@ -6,9 +6,9 @@ use crate::synchronous::Cached;
 use moka_engine::{FixedClock, Instant, Restored};
 
 /// The texts that are put in and saved, and then found.
-const PUT: [Row; 1] = [(Ask::InsertMany, "Cache::insert_many", "text", None)];
+const PUT: &[Row] = &[(Ask::InsertMany, "Cache::insert_many", "text", None)];
 
-const FOUND: [Row; 1] = [(Ask::GetMany, "Cache::get_many", "text", Some("text"))];
+const FOUND: &[Row] = &[(Ask::GetMany, "Cache::get_many", "text", Some("text"))];
 
 /// Clones of a cache's entries, if it can be saved.
 fn save(
@@ -54,10 +54,10 @@ pub fn is_saved(notes: &mut Notes, first: &mut Cached, second: &mut Cached) -> b
         number: 0,
         now: Instant(1_000),
     };
-    let are_put = are_made(notes, first, "saved", &PUT, words);
+    let are_put = are_made(notes, first, "saved", PUT, words);
     let are_restored = match save(notes, first, words) {
         Some(saved) => are_restored(notes, second, saved, words),
         None => false,
     };
-    are_made(notes, second, "saved", &FOUND, words) && are_put && are_restored
+    are_made(notes, second, "saved", FOUND, words) && are_put && are_restored
 }

@@ -5,7 +5,7 @@ use crate::entries::{compute, get_made, get_offered};
 use crate::many;
 use crate::notes::{Notes, Words};
 use crate::report::{Left, Refused, Report, Told, told_of};
-use crate::rounds::{Asked, ROUNDS, are_made, finish};
+use crate::rounds::{Asked, NONE, ROUNDS, are_made, finish};
 use moka_cache::Cache;
 use moka_engine::{FixedClock, NoExpiry, NoPredicate};
 use std::io;
@@ -106,7 +106,7 @@ impl Asked for Cached {
 }
 
 /// A text is asked for that is not there, put in twice, and asked for again, by its key and by a form of it.
-const CALLS: [Row; 5] = [
+const CALLS: &[Row] = &[
     (Ask::Get, "Cache::get", "value", None),
     (Ask::Insert, "Cache::insert", "first", None),
     (Ask::Insert, "Cache::insert", "value", Some("first")),
@@ -118,19 +118,19 @@ const CALLS: [Row; 5] = [
 pub const GONE: Row = (Ask::Contains, "Cache::contains_key", "", None);
 
 /// Two of three texts are taken out, each in a way of its own, and the third one is left.
-const REMOVE: [Row; 2] = [(Ask::Remove, "Cache::remove", "value", Some("value")), GONE];
+const REMOVE: &[Row] = &[(Ask::Remove, "Cache::remove", "value", Some("value")), GONE];
 
-const INVALIDATE: [Row; 2] = [
+const INVALIDATE: &[Row] = &[
     (Ask::Invalidate, "Cache::invalidate", "value", Some("value")),
     GONE,
 ];
 
-const REMOVE_BY: [Row; 2] = [
+const REMOVE_BY: &[Row] = &[
     (Ask::RemoveBy, "Cache::remove_by", "value", Some("value")),
     GONE,
 ];
 
-const INVALIDATE_BY: [Row; 2] = [
+const INVALIDATE_BY: &[Row] = &[
     (
         Ask::InvalidateBy,
         "Cache::invalidate_by",
@@ -141,21 +141,22 @@ const INVALIDATE_BY: [Row; 2] = [
 ];
 
 /// A predicate is registered.
-const REGISTER: [Row; 1] = [(Ask::Register, "Cache::invalidate_entries_if", "", None)];
+const REGISTER: &[Row] = &[(Ask::Register, "Cache::invalidate_entries_if", "", None)];
 
 /// Makes each call with the texts of each number; a run is made after those of each.
 pub fn make_rounds<W: Write>(out: &mut W, notes: &mut Notes, cache: &mut Cached) -> io::Result<()> {
     for number in 0..ROUNDS {
         let words = Words::new(notes.alloc, number);
-        let is_got = are_made(notes, cache, "key", &CALLS, words);
-        let is_taken_out = match number % 6 {
-            1 => are_made(notes, cache, "key", &REMOVE, words),
-            2 => are_made(notes, cache, "key", &INVALIDATE, words),
-            4 => are_made(notes, cache, "key", &REMOVE_BY, words),
-            5 => are_made(notes, cache, "key", &INVALIDATE_BY, words),
-            _ => true,
+        let is_got = are_made(notes, cache, "key", CALLS, words);
+        let taken_out: &[Row] = match number % 6 {
+            1 => REMOVE,
+            2 => INVALIDATE,
+            4 => REMOVE_BY,
+            5 => INVALIDATE_BY,
+            _ => NONE,
         };
-        let is_registered = are_made(notes, cache, "key", &REGISTER, words);
+        let is_taken_out = are_made(notes, cache, "key", taken_out, words);
+        let is_registered = are_made(notes, cache, "key", REGISTER, words);
         let is_right = is_got && is_taken_out && is_registered;
         finish(out, cache, words, is_right, None)?;
     }
