@@ -1,5 +1,5 @@
 -- What a read finds, and how it is counted.
-use Rattle.std.specs.Prelude.{◌≡◌, ◌==◌, ◌<◌, ◌+◌, ◌-◌, ◌^◌, ℕ, Bool, true, false, MatchBool, if◌then◌else◌}
+use Rattle.std.specs.Prelude.{◌≡◌, ◌==◌, ◌<◌, ◌+◌, ◌-◌, ◌^◌, ℕ, Bool, false, MatchBool, if◌then◌else◌}
 use Rattle.moka_engine.specs.Calls.{ContainsStep}
 use Rattle.moka_engine.specs.State.{State}
 use Rattle.moka_traces.specs.declared.tally.Tally.{Tally}
