@@ -53,7 +53,7 @@ impl Telling {
     fn begins(&mut self, cache: usize, shard: usize) -> bool {
         if let Some(outer) = self.cache {
             if outer == cache || self.outer.contains(&cache) {
-                if self.next.back() != Some(&(cache, shard)) {
+                if !self.next.contains(&(cache, shard)) {
                     self.next.push_back((cache, shard));
                 }
                 return false;
@@ -308,5 +308,15 @@ mod tests {
         notices.deliver();
         let queue = locked(&notices.queue);
         assert!(queue.waiting.is_empty() && queue.waiting.capacity() <= MOST_WAITING);
+    }
+
+    #[test]
+    fn a_shard_comes_next_once() {
+        let mut telling = Telling::NONE;
+        assert!(telling.begins(1, 0));
+        for shard in [0, 1, 0, 1] {
+            assert!(!telling.begins(1, shard));
+        }
+        assert_eq!(telling.next, [(1, 0), (1, 1)]);
     }
 }

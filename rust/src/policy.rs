@@ -19,6 +19,7 @@ pub use crate::engine::moka_engine::EvictionPolicy;
 
 use crate::engine::moka_engine as engine;
 use crate::key::Key;
+use std::ops::Deref;
 use std::sync::Arc;
 use std::time::{Duration, Instant};
 
@@ -146,6 +147,39 @@ pub trait Expiry<K, V> {
         duration_until_expiry: Option<Duration>,
     ) -> Option<Duration> {
         duration_until_expiry
+    }
+}
+
+// So a shared or boxed `dyn Expiry` is one.
+impl<K, V, T> Expiry<K, V> for T
+where
+    T: Deref<Target = dyn Expiry<K, V> + Send + Sync>,
+{
+    fn expire_after_create(&self, key: &K, value: &V, created_at: Instant) -> Option<Duration> {
+        self.deref().expire_after_create(key, value, created_at)
+    }
+
+    fn expire_after_read(
+        &self,
+        key: &K,
+        value: &V,
+        read_at: Instant,
+        duration_until_expiry: Option<Duration>,
+        last_modified_at: Instant,
+    ) -> Option<Duration> {
+        self.deref()
+            .expire_after_read(key, value, read_at, duration_until_expiry, last_modified_at)
+    }
+
+    fn expire_after_update(
+        &self,
+        key: &K,
+        value: &V,
+        updated_at: Instant,
+        duration_until_expiry: Option<Duration>,
+    ) -> Option<Duration> {
+        self.deref()
+            .expire_after_update(key, value, updated_at, duration_until_expiry)
     }
 }
 

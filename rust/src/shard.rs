@@ -27,6 +27,7 @@ use crate::support::alloc::Global;
 use crate::support::uuid::Uuid;
 use crate::{Entry, RemovalCause, Stats};
 use moka_cache::{CountingListener, NotTold};
+use std::alloc::{Layout, handle_alloc_error};
 use std::cell::OnceCell;
 use std::hash::Hash;
 use std::mem;
@@ -48,6 +49,7 @@ const ENTRIES_A_RUN: u64 = 384;
 const RUNS_A_VISIT: u32 = 16;
 // A call makes a run if the last one was so many nanoseconds ago. A shard that had no call for so long has one due.
 const QUIET: u64 = 300_000_000;
+const HASH_OF_NO_KEY: u64 = 0xb5ad_4ece_da1c_e2a9;
 
 /// Nanoseconds since the cache was built.
 #[derive(Clone, Copy)]
@@ -142,8 +144,9 @@ pub(crate) struct Shard<K: 'static, V> {
     visit_at: Instant,
     visits: Visits,
     is_visit_due: bool,
-    // Look-ups of nobody's.
+    // Look-ups of nobody's, and reads of what a call had looked up before.
     unasked: u64,
+    rereads: u64,
     // Stays set if a caller's own code panicked in the middle of a call.
     is_in_call: AtomicBool,
     is_timed: bool,
@@ -163,7 +166,7 @@ impl<K: Eq + Hash + 'static, V> Shard<K, V> {
     ) -> Self {
         let clock = Elapsed(start);
         Shard {
-            cache: cache(&settings, capacity, clock),
+            cache: cache(&settings, settings.initial_capacity, capacity, clock),
             clock,
             now: Instant(0),
             calls_until_reading: 0,
@@ -171,6 +174,7 @@ impl<K: Eq + Hash + 'static, V> Shard<K, V> {
             visits,
             is_visit_due: false,
             unasked: 0,
+            rereads: 0,
             is_in_call: AtomicBool::new(false),
             is_timed: settings.is_timed(),
             settings,
@@ -189,9 +193,10 @@ impl<K: Eq + Hash + 'static, V> Shard<K, V> {
 
     #[cold]
     fn empty(&mut self) {
-        let empty = cache(&self.settings, self.capacity, self.clock);
+        // The initial room is not asked for again, since it may be refused while the old cache is there.
+        let empty = cache(&self.settings, None, self.capacity, self.clock);
         self.counted = self.stats();
-        self.unasked = 0;
+        (self.unasked, self.rereads) = (0, 0);
         self.cache = empty;
         *self.is_in_call.get_mut() = false;
     }
@@ -287,12 +292,12 @@ impl<K: Eq + Hash + 'static, V> Shard<K, V> {
     }
 
     // Makes the run that is due at a moment, if one is. The cache has no call for it alone. This one finds nothing, at
-    // the address of no key.
+    // the address of no key. A key whose hash is a small number would become popular by it, if that were 0.
     fn run_what_is_due(&mut self, now: Instant)
     where
         V: Clone,
     {
-        let _nothing = self.change(|cache, clock| cache.get(&Key::at(0, 0), now, clock));
+        let _nothing = self.change(|cache, clock| cache.get(&Key::at(HASH_OF_NO_KEY, 0), now, clock));
         self.unasked += 1;
         self.keep_bound(now);
     }
@@ -368,6 +373,19 @@ impl<K: Eq + Hash + 'static, V> Shard<K, V> {
     {
         let (kept, value) = self.seek(hash, test);
         Some((kept?, value?))
+    }
+
+    /// A clone of a key's value, for a call whose look-up was counted before: a read, but no second look-up.
+    pub fn get_again(&mut self, hash: u64, test: impl Fn(&K) -> bool) -> Option<V>
+    where
+        V: Clone,
+    {
+        let value = self.get(hash, test);
+        match value {
+            Some(_) => self.rereads += 1,
+            None => self.unasked += 1,
+        }
+        value
     }
 
     /// A clone of a key's value with the key that is kept; nothing is recorded.
@@ -498,6 +516,10 @@ impl<K: Eq + Hash + 'static, V> Shard<K, V> {
         if !self.settings.takes_closures {
             return Err(PredicateError::InvalidationClosuresDisabled);
         }
+        if self.capacity == Some(0) {
+            // Nothing is here that it could hide, and no run would be done with it.
+            return Ok(());
+        }
         self.calls_until_reading = 0;
         let now = self.read_clock();
         self.run_what_is_due(now);
@@ -522,7 +544,8 @@ impl<K: Eq + Hash + 'static, V> Shard<K, V> {
     /// The keys that are kept, visible or not, with their hashes.
     pub fn keys(&self) -> Vec<(u64, Arc<K>)> {
         let Ok(Some(keys)) = self.cache.engine().keys(0) else {
-            return Vec::new();
+            // As everywhere in Rust: to give none would be a wrong answer.
+            handle_alloc_error(Layout::new::<Key<'static, K>>())
         };
         let with_hash = |key: Key<'static, K>| Some((key.hash(), key.into_shared()?));
         keys.into_std().into_iter().filter_map(with_hash).collect()
@@ -549,7 +572,7 @@ impl<K: Eq + Hash + 'static, V> Shard<K, V> {
     pub fn stats(&self) -> Stats {
         let (looks, left) = (self.cache.stats(), self.cache.removals());
         Stats {
-            hits: looks.hits,
+            hits: looks.hits.saturating_sub(self.rereads),
             misses: looks.misses.saturating_sub(self.unasked),
             expired: left.expired,
             explicit: left.explicit,
@@ -595,7 +618,12 @@ fn housekeeping(has_listener: bool) -> HousekeeperConfig {
     config
 }
 
-fn cache<K: 'static, V>(settings: &Settings<K, V>, capacity: Option<u64>, mut clock: Elapsed) -> Cache<K, V> {
+fn cache<K: 'static, V>(
+    settings: &Settings<K, V>,
+    room: Option<usize>,
+    capacity: Option<u64>,
+    mut clock: Elapsed,
+) -> Cache<K, V> {
     let has_listener = settings.listener.is_some();
     let mut expirations = ExpirationPolicy::default();
     if let Some(duration) = settings.time_to_live {
@@ -613,7 +641,7 @@ fn cache<K: 'static, V>(settings: &Settings<K, V>, capacity: Option<u64>, mut cl
         Global,
         None,
         capacity,
-        settings.initial_capacity,
+        room,
         Carried,
         weigher.map(|weigher| Weighing::new(weigher, capacity)),
         settings.eviction_policy,

@@ -3,6 +3,9 @@
 use ravulemis::RemovalCause;
 use ravulemis::sync::Cache;
 use std::alloc::{GlobalAlloc, Layout, System};
+use std::env;
+use std::panic::{AssertUnwindSafe, catch_unwind};
+use std::process::Command;
 use std::ptr;
 use std::sync::atomic::{AtomicUsize, Ordering};
 use std::sync::{Arc, Mutex, PoisonError, mpsc};
@@ -79,4 +82,45 @@ fn a_value_for_which_no_table_can_grow_leaves_at_once() {
     );
     cache.insert(key, 'c');
     assert_eq!((cache.get(&key), cache.iter().count()), (Some('c'), key as usize + 1));
+}
+
+/// The process ends for want of memory, so the test starts itself anew.
+#[test]
+fn an_iterator_that_is_refused_memory_leaves_nothing_out() {
+    const NAME: &str = "an_iterator_that_is_refused_memory_leaves_nothing_out";
+    if env::var_os(NAME).is_some() {
+        let cache = Cache::builder().shards(1).build();
+        (0..10_000).for_each(|key| cache.insert(key, key));
+        LIMIT.store(1 << 16, Ordering::Relaxed);
+        let count = cache.iter().count();
+        LIMIT.store(usize::MAX, Ordering::Relaxed);
+        assert_eq!(count, 10_000);
+        return;
+    }
+    let mut again = Command::new(env::current_exe().unwrap());
+    let ended = again.args(["--exact", NAME]).env(NAME, "").output().unwrap();
+    let printed = String::from_utf8_lossy(&ended.stdout);
+    assert!(!ended.status.success() && !printed.contains("panicked"), "{printed}");
+}
+
+#[test]
+fn a_cache_that_a_panic_emptied_asks_for_no_initial_room() {
+    let _alone = ALONE.lock().unwrap_or_else(PoisonError::into_inner);
+    let weigher = |_: &u32, value: &u32| {
+        assert_ne!(*value, 13, "a weigher that panics");
+        1
+    };
+    let cache = Cache::builder()
+        .shards(1)
+        .initial_capacity(100_000)
+        .weigher(weigher)
+        .build();
+    assert!(catch_unwind(AssertUnwindSafe(|| cache.insert(1, 13))).is_err());
+    LIMIT.store(1 << 16, Ordering::Relaxed);
+    let found = catch_unwind(AssertUnwindSafe(|| {
+        cache.insert(2, 2);
+        cache.get(&2)
+    }));
+    LIMIT.store(usize::MAX, Ordering::Relaxed);
+    assert_eq!(found.ok(), Some(Some(2)));
 }

@@ -385,3 +385,17 @@ fn a_cache_may_be_taken_over_an_unwinding() {
     fn is_safe<T: UnwindSafe + RefUnwindSafe>() {}
     is_safe::<Cache<String, Arc<Mutex<u32>>>>();
 }
+
+#[test]
+fn a_shard_that_keeps_nothing_keeps_no_predicate() {
+    let held = Arc::new(());
+    let cache = Cache::<u32, u32>::builder()
+        .max_capacity(0)
+        .support_invalidation_closures()
+        .build();
+    let captured = Arc::clone(&held);
+    cache
+        .invalidate_entries_if(move |_, _| Arc::strong_count(&captured) == 0)
+        .unwrap();
+    assert_eq!(Arc::strong_count(&held), 1);
+}

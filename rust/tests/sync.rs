@@ -2,11 +2,12 @@
 
 use ravulemis::ops::compute::{CompResult, Op};
 use ravulemis::sync::{Cache, CacheBuilder};
-use ravulemis::{EvictionPolicy, RemovalCause};
+use ravulemis::{EvictionPolicy, Expiry, RemovalCause};
+use std::hash::{BuildHasher, Hasher};
 use std::sync::atomic::{AtomicU32, AtomicU64, Ordering};
 use std::sync::{Arc, Barrier, Mutex, OnceLock, mpsc};
 use std::thread;
-use std::time::Duration;
+use std::time::{Duration, Instant};
 
 #[test]
 fn threads_share_it() {
@@ -192,7 +193,9 @@ static LATE: OnceLock<Cache<Late, Slow>> = OnceLock::new();
 
 impl Clone for Late {
     fn clone(&self) -> Self {
-        LATE.get().unwrap().insert(Late(self.0), Slow(1, Arc::default()));
+        // The first two clones are those of who finds it.
+        let clones = Arc::new(AtomicU32::new(u32::MAX));
+        LATE.get().unwrap().insert(Late(self.0), Slow(1, clones));
         Late(self.0)
     }
 }
@@ -209,6 +212,89 @@ fn a_value_that_was_taken_out_is_not_handed_out_by_one_who_found_it() {
         assert_eq!(cache.remove(&Late('a')).map(|value| value.0), Some(1));
         assert_eq!(cache.get_with(Late('a'), || Slow(2, Arc::default())).0, 2);
     });
+}
+
+/// A key that is cloned after a look-up in vain, as `Late`.
+#[derive(PartialEq, Eq, Hash)]
+struct Slot(u32);
+
+static SLOTS: OnceLock<Cache<Slot, char>> = OnceLock::new();
+
+impl Clone for Slot {
+    fn clone(&self) -> Self {
+        SLOTS.get().unwrap().insert(Slot(self.0), 'a');
+        Slot(self.0)
+    }
+}
+
+/// Entries that are handed out once.
+struct Once;
+
+impl<K, V> Expiry<K, V> for Once {
+    fn expire_after_read(&self, _: &K, _: &V, _: Instant, _: Option<Duration>, _: Instant) -> Option<Duration> {
+        Some(Duration::ZERO)
+    }
+}
+
+#[test]
+fn what_expires_by_the_look_that_found_it_is_replaced() {
+    let cache = Cache::builder().expire_after(Once).build();
+    cache.insert(1, 'a');
+    let entry = cache.entry(1).or_insert_with_if(|| 'b', |old| *old == 'a');
+    assert!(entry.is_fresh() && entry.is_old_value_replaced());
+}
+
+#[test]
+fn what_another_put_there_meanwhile_is_read() {
+    let cache = SLOTS.get_or_init(|| Cache::builder().expire_after(Once).build());
+    assert_eq!(cache.get_with_by_ref(&Slot(1), || unreachable!()), 'a');
+    assert_eq!(cache.get(&Slot(1)), None);
+    let stats = cache.stats();
+    assert_eq!((stats.hits, stats.misses, stats.loads), (0, 2, 0));
+}
+
+/// Hashes a number to itself.
+#[derive(Clone, Copy, Default)]
+struct Same(u64);
+
+impl BuildHasher for Same {
+    type Hasher = Same;
+
+    fn build_hasher(&self) -> Same {
+        Same(0)
+    }
+}
+
+impl Hasher for Same {
+    fn write(&mut self, _: &[u8]) {
+        unreachable!("keys are numbers");
+    }
+
+    fn write_u64(&mut self, number: u64) {
+        self.0 = number;
+    }
+
+    fn finish(&self) -> u64 {
+        self.0
+    }
+}
+
+#[test]
+fn a_key_becomes_popular_by_its_own_look_ups_alone() {
+    let cache = Cache::builder()
+        .max_capacity(100)
+        .shards(1)
+        .support_invalidation_closures()
+        .build_with_hasher(Same(0));
+    for _ in 0..4 {
+        (1..=100u64).for_each(|key| _ = cache.get_with(key, || 'a'));
+        cache.run_pending_tasks();
+    }
+    (0..30).for_each(|_| _ = cache.invalidate_entries_if(|_, _| false).unwrap());
+    cache.run_pending_tasks();
+    cache.insert(0, 'b');
+    cache.run_pending_tasks();
+    assert!(!cache.contains_key(&0), "nobody asked for it");
 }
 
 #[test]

@@ -5,6 +5,7 @@ use ravulemis::unsync::Cache;
 use ravulemis::{EvictionPolicy, Expiry, PredicateError, RemovalCause};
 use std::collections::HashMap;
 use std::panic::{AssertUnwindSafe, catch_unwind};
+use std::sync::Arc;
 use std::sync::mpsc::{self, Receiver};
 use std::thread::sleep;
 use std::time::{Duration, Instant};
@@ -176,6 +177,15 @@ fn entries_expire_by_themselves() {
     assert_eq!(cache.get(&1), None);
     cache.run_pending_tasks();
     assert_eq!((cache.entry_count(), cache.stats().expired), (0, 2));
+}
+
+#[test]
+fn an_expiry_may_be_shared() {
+    let expiry: Arc<dyn Expiry<u32, u64> + Send + Sync> = Arc::new(Hours);
+    let mut cache = Cache::builder().expire_after(expiry).build();
+    cache.insert(1, 1);
+    cache.insert(2, 0);
+    assert_eq!((cache.get(&1), cache.get(&2)), (Some(1), None));
 }
 
 #[test]

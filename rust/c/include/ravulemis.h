@@ -175,9 +175,9 @@ int32_t ravulemis_invalidate_all(ravulemis_cache *cache);
 /* Hides all values that are there and to which the predicate says yes, which leave later. The cache has to be created
    with `supports_predicates`. Later calls, by whatever thread, ask the predicate about values that are older than this
    call, until maintenance has found none left that it hides; `ravulemis_run_pending_tasks` sees to that. Then, or when
-   the cache goes (if its capacity is 0, then alone), the context is dropped: `drop_context` is called with it once. It
-   may be null: then the context has to outlive the cache and the calls for it. If this call is refused, the context is
-   dropped before it returns. Errors: RAVULEMIS_BAD_ARGUMENT, RAVULEMIS_DESTROYED, RAVULEMIS_UNSUPPORTED;
+   the cache goes (if its capacity is 0, before this call returns), the context is dropped: `drop_context` is called with
+   it once. It may be null: then the context has to outlive the cache and the calls for it. If this call is refused, the
+   context is dropped before it returns. Errors: RAVULEMIS_BAD_ARGUMENT, RAVULEMIS_DESTROYED, RAVULEMIS_UNSUPPORTED;
    RAVULEMIS_FAULT, also if there is no memory for one more predicate: then some shards may have it already. */
 int32_t ravulemis_invalidate_if(ravulemis_cache *cache, ravulemis_predicate predicate, void *context,
                                 ravulemis_drop drop_context);

@@ -78,16 +78,17 @@ where
         RefKeyEntrySelector { cache: self, hash, key }
     }
 
-    // The entry of a key, with the value made if it is missing or to be replaced.
+    // The entry of a key, with the value made if it is missing or to be replaced, as one was that the call has seen.
     fn entry_loaded(
         &self,
         hash: u64,
         key: Arc<K>,
         kind: TypeId,
+        is_seen: bool,
         mut replaces: impl FnMut(&V) -> bool,
         make: impl FnOnce() -> Outcome<V>,
     ) -> (Arc<K>, bool, Outcome<V>) {
-        let mut is_replaced = false;
+        let mut is_replaced = is_seen;
         let outcome = self.load(
             hash,
             Arc::clone(&key),
@@ -194,12 +195,14 @@ macro_rules! calls {
             mut replace_if: impl FnMut(&V) -> bool,
         ) -> Entry<K, V> {
             let found = self.look();
-            let (cache, hash) = (self.cache, self.hash);
+            let (cache, hash, is_seen) = (self.cache, self.hash, found.is_some());
             match found {
                 Some((key, value)) if !replace_if(&value) => Entry::found(key, value),
                 _ => {
                     let kind = TypeId::of::<Always>();
-                    let loaded = cache.entry_loaded(hash, self.into_shared(), kind, replace_if, || made(init()));
+                    let loaded = cache.entry_loaded(hash, self.into_shared(), kind, is_seen, replace_if, || {
+                        made(init())
+                    });
                     always(entry_of(loaded))
                 }
             }
@@ -220,7 +223,7 @@ macro_rules! calls {
             }
             let (cache, hash, kind) = (self.cache, self.hash, TypeId::of::<Optionally>());
             let make = || made_or_nothing(init());
-            entry_of(cache.entry_loaded(hash, self.into_shared(), kind, |_| false, make))
+            entry_of(cache.entry_loaded(hash, self.into_shared(), kind, false, |_| false, make))
         }
 
         /// The key's entry; if there is none, a value is made and put there.
@@ -244,7 +247,8 @@ macro_rules! calls {
             }
             let (cache, hash, kind) = (self.cache, self.hash, TypeId::of::<E>());
             let make = || made_or_failed(init());
-            let (key, is_replaced, outcome) = cache.entry_loaded(hash, self.into_shared(), kind, |_| false, make);
+            let (key, is_replaced, outcome) =
+                cache.entry_loaded(hash, self.into_shared(), kind, false, |_| false, make);
             let outcome = shared_error(outcome)?;
             Ok(always(entry_of((key, is_replaced, outcome))))
         }

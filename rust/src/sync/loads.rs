@@ -85,6 +85,9 @@ where
             if let Some((_, value)) = there
                 && !replaces(&value)
             {
+                let value = calls
+                    .make(|shard| shard.get_again(hash, |kept| *kept == **key))
+                    .unwrap_or(value);
                 return Outcome::Made { value, is_fresh: false };
             }
             let mut load = Load {
