@@ -16,10 +16,11 @@ enum Case {
     CountsRemovals,
     RefusesEntries,
     IsRestored,
+    HoldsNothing,
 }
 
 // What is tested of a cache, and whether runs come by themselves.
-const CASES: [(Case, &str, bool); 8] = [
+const CASES: [(Case, &str, bool); 9] = [
     (Case::SendsAtOnce, "operations are sent at once", false),
     (Case::RunsByItself, "a run comes by itself", true),
     (
@@ -40,12 +41,21 @@ const CASES: [(Case, &str, bool); 8] = [
         "what was saved is put back, in the order of access",
         true,
     ),
+    (
+        Case::HoldsNothing,
+        "a cache of capacity 0 takes what is put, and keeps none of it",
+        true,
+    ),
 ];
 
 #[test]
 fn answers_as_it_should(rt: HostRuntime) {
     for (case, name, is_automatic) in &CASES {
-        let Ok(mut engine) = config().build(rt.alloc(), NOW) else {
+        let config = match case {
+            Case::HoldsNothing => config().max_capacity(0),
+            _ => config(),
+        };
+        let Ok(mut engine) = config.build(rt.alloc(), NOW) else {
             panic!(rt; "memory");
         };
         if !*is_automatic {
@@ -68,6 +78,7 @@ fn is_right(alloc: Global, cache: &mut Tested, case: &Case) -> bool {
         Case::IsRestored => {
             fill_apart(cache) && lists(cache) && restores(alloc, cache) && lists(cache)
         }
+        Case::HoldsNothing => holds_nothing(cache),
     }
 }
 
@@ -149,4 +160,16 @@ fn counts_removals(cache: &mut Tested) -> bool {
         ..
     } = cache.removals();
     are_replaced && is_removed && (explicit, replaced) == (1, 2)
+}
+
+// Whether a cache of capacity 0 keeps neither what is put nor what is made, and tells its listener of neither.
+fn holds_nothing(cache: &mut Tested) -> bool {
+    let clock = &mut FixedClock(NOW);
+    let is_put = cache.insert(1, 10, NOW, clock).is_ok();
+    let is_absent = matches!(cache.get(&1, NOW, clock), Ok(None));
+    let is_made = matches!(cache.get_with(1, twenty, NOW, clock), Ok(20));
+    let is_kept = cache.contains_key(&1, NOW);
+    cache.run_pending_tasks(NOW, clock);
+    let is_told = cache.removals() != Removals::new();
+    is_put && is_absent && is_made && !is_kept && waiting(cache) == (0, 0, 0) && !is_told
 }
