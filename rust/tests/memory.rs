@@ -99,8 +99,8 @@ fn an_iterator_that_is_refused_memory_leaves_nothing_out() {
     }
     let mut again = Command::new(env::current_exe().unwrap());
     let ended = again.args(["--exact", NAME]).env(NAME, "").output().unwrap();
-    let printed = String::from_utf8_lossy(&ended.stdout);
-    assert!(!ended.status.success() && !printed.contains("panicked"), "{printed}");
+    let told = String::from_utf8_lossy(&ended.stderr);
+    assert!(!ended.status.success() && told.contains("memory allocation"), "{told}");
 }
 
 #[test]

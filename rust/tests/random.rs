@@ -144,7 +144,7 @@ impl Plain {
 
 /// The tests of a cache, which is built by what this builder becomes.
 macro_rules! tests {
-    ($module:ident, $cache:path, $builder:expr) => {
+    ($module:ident, $cache:path, $builder:expr, $asks:expr) => {
         mod $module {
             use super::*;
             use $cache as Cache;
@@ -185,6 +185,10 @@ macro_rules! tests {
                         let entry = cache.entry(key).or_insert_with_if(|| value, replaces);
                         match saw.get() {
                             Some(old) if !old.is_multiple_of(2) => plain.is_entered(key, Some(old), None, &entry),
+                            Some(old) if asked.get() < $asks => {
+                                plain.is_entered(key, Some(old), Some(value), &entry);
+                                plain.is_evicted(key, old, told);
+                            }
                             saw => plain.is_entered(key, saw, Some(value), &entry),
                         }
                     }
@@ -276,5 +280,5 @@ macro_rules! tests {
     };
 }
 
-tests!(shared, ravulemis::sync::Cache, Cache::builder().shards(4));
-tests!(owned, ravulemis::unsync::Cache, Cache::builder());
+tests!(shared, ravulemis::sync::Cache, Cache::builder().shards(4), 2);
+tests!(owned, ravulemis::unsync::Cache, Cache::builder(), 1);
