@@ -18,8 +18,6 @@ pub mod Lasting
 pub mod Restoring
 pub mod There
 pub mod Membership
-mod Answering
-mod MadeAgain
 pub mod Saving
 pub use Rattle.moka_calls.proofs.Made
 pub use Rattle.moka_calls.proofs.Lists

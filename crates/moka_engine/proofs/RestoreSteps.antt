@@ -35,7 +35,7 @@ insert_again m n x y = same_map nat_cmp_total nat_cmp-IsAntisymmetric (insert (i
 
 module _ {K V X P W : Type 0} (eq : K → K → Bool) where
   -- what always holds does so after an entry is put back
-  restored_valid : (s : State K V X P W) (item : Restored K V) (hash w : ℕ) → IsEquivalence eq → is_disabled s.capacity ≡ false → record_of_key eq s.records item.key ≡ None → IsValid eq s → IsValid eq (restored s item hash w)
+  pub restored_valid : (s : State K V X P W) (item : Restored K V) (hash w : ℕ) → IsEquivalence eq → is_disabled s.capacity ≡ false → record_of_key eq s.records item.key ≡ None → IsValid eq s → IsValid eq (restored s item hash w)
   restored_valid s item hash w laws enabled absent h =
       let created : X → K → V → ℕ → Option ℕ = λ _ _ _ _. None in
       let updating : X → K → V → ℕ → Option ℕ → Option ℕ = λ _ _ _ _ _. None in

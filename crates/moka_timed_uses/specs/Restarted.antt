@@ -9,9 +9,10 @@ use Rattle.moka_engine.specs.Config.{Config}
 use Rattle.moka_engine.specs.Runs.{Engine}
 use Rattle.moka_engine.specs.State.{State, Meaning}
 use Rattle.moka_engine.specs.declared.base_cache.restores.Restored.{Restored}
-use Rattle.moka_cache.specs.Saved.{AddsOnly, AnswerAlike, AreThere, IsOfItem, IsRestored, IsRoomyFor, PutsAllBack, has_expired}
+use Rattle.moka_cache.specs.Saved.{AddsOnly, AreThere, IsOfItem, IsRestored, IsRoomyFor, PutsAllBack, has_expired}
 use Rattle.moka_cache.specs.Synchronous.{Synchronous, Just, Makes, own_run}
 use Rattle.moka_cache.specs.Unsent.{HidesNoMore}
+use Rattle.moka_restore_laws.specs.Again.{AnswerAlike}
 use Rattle.moka_uses.specs.Made.{IsNew}
 
 -- the cache made a run of maintenance at the moment, and no other call

@@ -10,8 +10,8 @@ ghost use Rattle.moka_uses.specs.Made.{plain_meaning};
 ghost use Rattle.moka_timed_uses.specs.Restarted.{AreAmong, AreBack, AreBegunAgain, AreHandedOver, ArePutBack, Runs};
 
 use crate::sessions::Sessions;
-use moka_cache::laws::made_again_answers_alike;
 use moka_engine::{CacheConfig, Clock, NoExpiry, NoPredicate, NoWeigher, OutOfMemory, Restored};
+use moka_restore_laws::laws::made_again_answers_alike;
 use moka_timed::TimedCache;
 use std::alloc::Global;
 use std::time::Duration;

@@ -132,7 +132,7 @@ impl<
     ///
     /// If there are no predicates and no invalidation of all: an entry that was put back is visible exactly when the
     /// saved one is, until either is read or written, if time to live and time to idle are the same
-    /// (`laws::answers_as_before`); and each entry that has not expired at the moment `now` is there afterwards, if the
+    /// (`moka_restore_laws`); and each entry that has not expired at the moment `now` is there afterwards, if the
     /// capacity, should one be set, has room for all (`IsRoomyFor`). Else runs that a later entry starts may evict it.
     /// How often keys were asked for is forgotten, and entries do not stand in the order of writing.
     ///

@@ -11,9 +11,9 @@ use crate::engine::moka_parts::policy::Expiry;
 
 /// Calls that are chains of steps (`Made`), one after the other, are one run of the reference cache, however many there
 /// are, if each goes on with the clock that the one before it left (else `made_anytime`). `restore` and
-/// `restore_entry` are none, since the reference cache has no such call: what is called after one is a list of its own,
-/// and all that `keeps_promises` asks of its start holds of every cache (`invariant_holds` of its engine). Nor is
-/// `invalidate_entries_if`, which asks for identifiers (`joins_registrations`).
+/// `restore_entry` are none, since the reference cache has no such call (`moka_restore_laws`): what is called after one
+/// is a list of its own, and all that `keeps_promises` asks of its start holds of every cache (`invariant_holds` of its
+/// engine). Nor is `invalidate_entries_if`, which asks for identifiers (`joins_registrations`).
 pub fn goes_on<
     K: Eq,
     V,

@@ -3,8 +3,8 @@
 use crate::support::prelude::*;
 
 use crate::proved_tests::moka_timed_uses::sessions::Sessions;
-use crate::engine::moka_cache::laws::made_again_answers_alike;
 use crate::engine::moka_engine::{CacheConfig, Clock, NoExpiry, NoPredicate, NoWeigher, OutOfMemory, Restored};
+use crate::proved_tests::moka_restore_laws::laws::made_again_answers_alike;
 use crate::proved_tests::moka_timed::TimedCache;
 use crate::support::alloc::Global;
 use crate::support::time::Duration;

@@ -1,5 +1,5 @@
-use Rattle.moka_cache.proofs.MadeAgain.{made_again_answers_alike, empty_has_room}
-use Rattle.moka_cache.proofs.laws.made_again_answers_alike.Goals as goal
+use Rattle.moka_restore_laws.proofs.MadeAgain.{made_again_answers_alike, empty_has_room}
+use Rattle.moka_restore_laws.proofs.laws.made_again_answers_alike.Goals as goal
 
 pub returns : goal.returns
 returns g c = record {

@@ -2,7 +2,7 @@
 use Rattle.std.proofs.Common.{Bool}
 use Rattle.moka_parts.specs.Visibility.{is_expired, is_past_live, is_past_idle, is_written_before, is_read_before}
 use Rattle.moka_laws.proofs.Surplus.{none_of_five}
-use Rattle.moka_cache.specs.Saved.{AnswersAlike}
+use Rattle.moka_restore_laws.specs.Again.{AnswersAlike}
 
 pub answers_alike : {K V P : Type 0} (X W : Type 0) (says : P → K → V → Bool → Type 0) → AnswersAlike X W says
 answers_alike X W says first second r q seen now live idle valid unhidden written read expires shown =

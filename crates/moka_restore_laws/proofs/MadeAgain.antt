@@ -24,15 +24,24 @@ use Rattle.moka_parts.proofs.Values.{values-empty}
 use Rattle.moka_laws.proofs.Surplus.{none_of_five}
 use Rattle.moka_engine.specs.declared.base_cache.restores.Restored.{Restored}
 use Rattle.moka_engine.specs.Snapshots.{Seen, IsListed, scene_of}
-use Rattle.moka_cache.specs.Saved.{AreAsWeighed, AreSaved, IsOfItem, IsSaved, IsRestored, HasRoomFor, IsMadeAgain, IsSeen, AnswerAlike, MadeAgainAnswersAlike, EmptyHasRoom, has_expired}
-use Rattle.moka_cache.proofs.Answering.{answers_alike}
+use Rattle.moka_cache.specs.Saved.{AreAsWeighed, AreSaved, IsOfItem, IsSaved, IsRestored, HasRoomFor, has_expired}
 use Rattle.moka_cache.proofs.Membership.{none_waits}
+use Rattle.moka_restore_laws.specs.Again.{IsMadeAgain, AnswerAlike, MadeAgainAnswersAlike, EmptyHasRoom}
+use Rattle.moka_restore_laws.proofs.Answering.{answers_alike}
 
 -- ---- what has not expired had not expired before
 
-not_passed_before : (o : Option ℕ) (t u : ℕ) → t ≤ u → has_passed o u ≡ false → has_passed o t ≡ false
+pub not_passed_before : (o : Option ℕ) (t u : ℕ) → t ≤ u → has_passed o u ≡ false → has_passed o t ≡ false
 not_passed_before None t u le none = refl
 not_passed_before (Some d) t u le none = grind arith
+
+-- the second record has the key, a clone of the value, the moments and the expiry of the first
+pub record IsCloneOf {K V : Type 0} (is_value_clone : V → V → Type 0) (r q : Record K V) : Type 0 where
+  pub key : q.key ≡ r.key
+  pub value : is_value_clone r.value q.value
+  pub written : q.written ≡ r.written
+  pub read : q.read ≡ r.read
+  pub expires : q.expires ≡ r.expires
 
 -- the entry was saved of the record
 record IsSavedOf {K V : Type 0} (is_value_clone : V → V → Type 0) (r : Record K V) (item : Restored K V) : Type 0 where
@@ -43,7 +52,7 @@ record IsSavedOf {K V : Type 0} (is_value_clone : V → V → Type 0) (r : Recor
   expires : item.expires ≡ r.expires
 
 module _ {K V X P W : Type 0} (weighs : W → K → V → ℕ → Type 0) (eq : K → K → Bool) (laws : IsEquivalence eq) (says : P → K → V → Bool → Type 0) (is_key_clone : K → K → Type 0) (is_value_clone : V → V → Type 0) (equal : ClonesAreEqual is_key_clone) where
-  visible_before : (s : State K V X P W) (r : Record K V) (t u : ℕ) → t ≤ u → IsVisible says s r u → IsVisible says s r t
+  pub visible_before : (s : State K V X P W) (r : Record K V) (t u : ℕ) → t ≤ u → IsVisible says s r u → IsVisible says s r t
   visible_before s r t u le visible =
       let none = none_of_five (is_expired r u) (is_past_live s.settings r u) (is_past_idle s.settings r u) (is_written_before s.invalid_before r) (is_read_before s.invalid_before r) visible.0 in (
         rw (not_passed_before (moment_of r.expires) t u le none.0, not_passed_before (deadline s.settings.time_to_live r.written.0) t u le none.1, not_passed_before (deadline s.settings.time_to_idle r.read.0) t u le none.2, none.3, none.4) refl,
@@ -99,49 +108,64 @@ module _ {K V X P W : Type 0} (weighs : W → K → V → ℕ → Type 0) (eq : 
       | inr behind ↦ record_of members rest item more behind
     ]
 
+  module _ (saved put : ℕ) (items : List (Restored K V)) (first start second : State K V X P W) (d : IsMadeAgain weighs eq says is_key_clone is_value_clone saved put items first start second) (now : ℕ) (late_saved : saved ≤ now) (late_put : put ≤ now) where
+    live : second.settings.time_to_live ≡ first.settings.time_to_live
+    live = ap (λ (x : Settings X W). x.time_to_live) d.hides.settings ∙ d.time_to_live
+
+    idle : second.settings.time_to_idle ≡ first.settings.time_to_idle
+    idle = ap (λ (x : Settings X W). x.time_to_idle) d.hides.settings ∙ d.time_to_idle
+
+    alike : (r q : Record K V) (item : Restored K V) → IsSavedOf is_value_clone r item → IsOfItem item q → IsVisible says first r saved → (IsVisible says first r now → IsVisible says second q now) × (IsVisible says second q now → IsVisible says first r now)
+    alike r q item of put_back visible =
+        answers_alike X W says first second r q saved now live idle (d.hides.bound ∙ d.roomy.bound) (d.hides.predicates d.roomy.predicates)
+        (put_back.written_is ∙ of.written) (put_back.read_is ∙ of.read) (put_back.expires_is ∙ of.expires) visible
+
+    clone_of : (r q : Record K V) (item : Restored K V) → IsSavedOf is_value_clone r item → IsOfItem item q → IsCloneOf is_value_clone r q
+    clone_of r q item of put_back = record {
+      key = put_back.key_is ∙ of.key;
+      value = subst (is_value_clone r.value) (sym put_back.value_is) of.value;
+      written = put_back.written_is ∙ of.written;
+      read = put_back.read_is ∙ of.read;
+      expires = put_back.expires_is ∙ of.expires;
+    }
+
+    -- each visible record of the first has its clone in the second
+    pub cloned : (n : ℕ) (r : Record K V) → get first.records n ≡ Some r → IsVisible says first r now → (k : ℕ) × (q : Record K V) × (get second.records k ≡ Some q) × IsVisible says second q now × IsCloneOf is_value_clone r q
+    cloned n r there visible =
+        let seen = visible_before first r saved now late_saved visible in
+        let (item, inside, of) = item_of first saved n r there seen first.access items (d.all_saved n r there) d.items_saved in
+        let restored : IsRestored eq second item = of_each _ items (d.there d.roomy) item inside (unexpired first start r item put now late_put d.time_to_live d.time_to_idle of visible) in
+        let place = record_of_key_found eq second.records item.key restored.kept restored.found in
+        (place.0, restored.kept, place.1, (alike r restored.kept item of restored.of_item seen).0 visible, clone_of r restored.kept item of restored.of_item)
+
+    -- and each of the second is the clone of one
+    pub clone_from : (k : ℕ) (q : Record K V) → get second.records k ≡ Some q → IsVisible says second q now → (n : ℕ) × (r : Record K V) × (get first.records n ≡ Some r) × IsVisible says first r now × IsCloneOf is_value_clone r q
+    clone_from k q there visible = elim (d.adds k q there) [
+      | inl (r, old, same) ↦ absurd (nothing_at k r (ap (λ records. get records k) (sym d.no_records) ∙ old))
+      | inr (item, inside, put_back) ↦
+          let (n, r, here, seen, of) = record_of first saved first.access items item d.items_saved inside in
+          (n, r, here, (alike r q item of put_back seen).1 visible, clone_of r q item of put_back)
+    ]
+
+    -- the moment of writing of a record in the second is one of the first
+    pub written_in_first : (k : ℕ) (q : Record K V) → get second.records k ≡ Some q → (n : ℕ) × (r : Record K V) × (get first.records n ≡ Some r) × (q.written ≡ r.written)
+    written_in_first k q there = elim (d.adds k q there) [
+      | inl (r, old, same) ↦ absurd (nothing_at k r (ap (λ records. get records k) (sym d.no_records) ∙ old))
+      | inr (item, inside, put_back) ↦ let (n, r, here, seen, of) = record_of first saved first.access items item d.items_saved inside in (n, r, here, put_back.written_is ∙ of.written)
+    ]
+
   answer_alike : (saved put : ℕ) (items : List (Restored K V)) (first start second : State K V X P W) → IsValid eq first → IsValid eq second → IsMadeAgain weighs eq says is_key_clone is_value_clone saved put items first start second →
       (key : K) (now : ℕ) → saved ≤ now → put ≤ now → AnswerAlike eq says is_value_clone first second key now
-  answer_alike saved put items first start second valid_first valid_second d key now late_saved late_put = record { forth = forth; back = back }
-    where
-      live : second.settings.time_to_live ≡ first.settings.time_to_live
-      live = ap (λ (x : Settings X W). x.time_to_live) d.hides.settings ∙ d.time_to_live
-
-      idle : second.settings.time_to_idle ≡ first.settings.time_to_idle
-      idle = ap (λ (x : Settings X W). x.time_to_idle) d.hides.settings ∙ d.time_to_idle
-
-      alike : (r q : Record K V) (item : Restored K V) → IsSavedOf is_value_clone r item → IsOfItem item q → IsVisible says first r saved → (IsVisible says first r now → IsVisible says second q now) × (IsVisible says second q now → IsVisible says first r now)
-      alike r q item of put_back visible =
-          answers_alike X W says first second r q saved now live idle (d.hides.bound ∙ d.roomy.bound) (d.hides.predicates d.roomy.predicates)
-          (put_back.written_is ∙ of.written) (put_back.read_is ∙ of.read) (put_back.expires_is ∙ of.expires) visible
-
-      forth : (r : Record K V) → IsSeen eq says first key now r → (q : Record K V) × IsSeen eq says second key now q × is_value_clone r.value q.value
-      forth r (found, visible) =
-          let at = record_of_key_found eq first.records key r found in
-          let seen = visible_before first r saved now late_saved visible in
-          let (item, inside, of) = item_of first saved at.0 r at.1 seen first.access items (d.all_saved at.0 r at.1) d.items_saved in
-          let restored : IsRestored eq second item = of_each _ items (d.there d.roomy) item inside (unexpired first start r item put now late_put d.time_to_live d.time_to_idle of visible) in
-          let q = restored.kept in
-          let place = record_of_key_found eq second.records item.key q restored.found in
-          let same_key : eq key q.key ≡ true = ap (eq key) (restored.of_item.key_is ∙ of.key) ∙ at.2 in (
-            q,
-            (present_key eq second.records key laws valid_second.numbered.numbered.one_each place.0 q place.1 same_key, (alike r q item of restored.of_item seen).0 visible),
-            subst (is_value_clone r.value) (sym restored.of_item.value_is) of.value,
-          )
-
-      back : (q : Record K V) → IsSeen eq says second key now q → (r : Record K V) × IsSeen eq says first key now r × is_value_clone r.value q.value
-      back q (found, visible) = elim (d.adds at.0 q at.1) [
-        | inl (r, old, same) ↦ absurd (nothing_at at.0 r (ap (λ records. get records at.0) (sym d.no_records) ∙ old))
-        | inr (item, inside, put_back) ↦
-            let (n, r, there, seen, of) = record_of first saved first.access items item d.items_saved inside in
-            let same_key : eq key r.key ≡ true = ap (eq key) (sym of.key ∙ sym put_back.key_is) ∙ at.2 in (
-              r,
-              (present_key eq first.records key laws valid_first.numbered.numbered.one_each n r there same_key, (alike r q item of put_back seen).1 visible),
-              subst (is_value_clone r.value) (sym put_back.value_is) of.value,
-            )
-      ]
-        where
-          at : (n : ℕ) × (get second.records n ≡ Some q) × (eq key q.key ≡ true)
-          at = record_of_key_found eq second.records key q found
+  answer_alike saved put items first start second valid_first valid_second d key now late_saved late_put = record {
+    forth = λ r seen.
+        let at = record_of_key_found eq first.records key r seen.0 in
+        let (k, q, there, visible, of) = cloned saved put items first start second d now late_saved late_put at.0 r at.1 seen.1 in
+        (q, (present_key eq second.records key laws valid_second.numbered.numbered.one_each k q there (ap (eq key) of.key ∙ at.2), visible), of.value);
+    back = λ q seen.
+        let at = record_of_key_found eq second.records key q seen.0 in
+        let (n, r, there, visible, of) = clone_from saved put items first start second d now late_saved late_put at.0 q at.1 seen.1 in
+        (r, (present_key eq first.records key laws valid_first.numbered.numbered.one_each n r there (ap (eq key) (sym of.key) ∙ at.2), visible), of.value);
+  }
 
 pub made_again_answers_alike : {K V P W : Type 0} (X : Type 0) (weighs : W → K → V → ℕ → Type 0) (eq : K → K → Bool) → IsEquivalence eq → (says : P → K → V → Bool → Type 0) (is_key_clone : K → K → Type 0) (is_value_clone : V → V → Type 0) → MadeAgainAnswersAlike X weighs eq says is_key_clone is_value_clone
 made_again_answers_alike X weighs eq laws says is_key_clone is_value_clone equal = answer_alike {X = X} weighs eq laws says is_key_clone is_value_clone equal

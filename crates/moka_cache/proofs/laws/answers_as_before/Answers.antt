@@ -1,5 +1,0 @@
-use Rattle.moka_cache.proofs.Answering.{answers_alike}
-use Rattle.moka_cache.proofs.laws.answers_as_before.Goals as goal
-
-pub returns : goal.returns
-returns g c = answers_alike g.row.X.Denot g.row.W.Denot g.P.PredicateFn.says

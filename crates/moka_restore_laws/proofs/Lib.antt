@@ -1,0 +1,6 @@
+mod Among
+mod Answering
+mod MadeAgain
+mod Twins
+mod Looking
+mod LooksAlike
