@@ -13,9 +13,16 @@ use Rattle.moka_parts.specs.State.{State, Meaning, Events}
 use Rattle.moka_laws.proofs.EachCall.{IsKept, kept_by_call}
 use Rattle.moka_laws.proofs.Kept.{kept_by_run}
 use Rattle.moka_calls.specs.Synchronous.{Posts, InsertsEntry, GetsValue, RemovesEntry, InsertsMade, GetsOrInserts, GetsOrInsertsIfMade, GetsOrInsertsIfNoError}
-use Rattle.moka_calls.specs.Computing.{Computed, Computes, Upserts}
+use Rattle.moka_calls.specs.Computing.{Computed, Computes, InTurn, Upserts}
 use Rattle.moka_calls.specs.Computing.Computed.{Left, LeftNone, Puts, Takes}
-use Rattle.moka_calls.specs.Limits.{HasSameLimits, SetsNoCapacity, SetNoCapacity, SetNone, KeepsLimits, CallsSetNoCapacity}
+use Rattle.moka_calls.specs.Limits.{HasSameLimits, SetsNoCapacity, SetNoCapacity, SetNone, KeepsLimits, CallsSetNoCapacity, ManySetNoCapacity}
+use Rattle.moka_calls.specs.Many.{Each, GetsItem, GetsMany, InsertsItem, InsertsMany, Invalidates, InvalidatesMany}
+use Rattle.moka_calls.specs.declared.error.NotTold.{NotTold}
+use Rattle.moka_calls.specs.declared.many.GetManyRefused.{GetManyRefused}
+use Rattle.moka_calls.specs.declared.many.InsertManyRefused.{InsertManyRefused}
+use Rattle.moka_calls.specs.declared.many.InvalidateManyRefused.{InvalidateManyRefused}
+use Rattle.std.specs.declared.alloc.Global.{Global}
+use Rattle.std.specs.declared.vec.Vec.{Vec}
 
 module _ {K V X P W : Type 0} where
   on : (s t u : State K V X P W) → HasSameLimits s t → HasSameLimits t u → HasSameLimits s u
@@ -31,6 +38,10 @@ module _ {K V P : Type 0} where
   posting_sets_none : (now : Instant) (ticket : Ticket) → SetNone {K = K} {V = V} {P = P} (Posts now ticket)
   posting_sets_none now ticket calls replies (inl (is, replied)) = subst SetNoCapacity (sym is) (tt, (tt, tt))
   posting_sets_none now ticket calls replies (inr (more, is, replied)) = subst SetNoCapacity (sym is) (tt, (tt, (tt, (tt, tt))))
+
+  both_set_none : (cs ds : List (Call K V P)) → SetNoCapacity cs → SetNoCapacity ds → SetNoCapacity (cs ++ ds)
+  both_set_none [] ds first second = second
+  both_set_none (c ∷ cs) ds first second = (first.0, both_set_none cs ds first.1 second)
 
   module _ (key : K) (hash : ℕ) (now : Instant) where
     remove_sets_none : (taken : Option (V × Result (Unit {0}) OutOfMemory)) → SetNone {P = P} (RemovesEntry key hash now taken)
@@ -73,10 +84,6 @@ module _ {K V P : Type 0} where
     if_made_sets_none (Some (Some made)) (Err refused) calls replies fits = get_with_sets_none (Some made) (Err refused) calls replies fits
     if_made_sets_none made own calls replies fits = absurd fits
 
-    both_set_none : (cs ds : List (Call K V P)) → SetNoCapacity cs → SetNoCapacity ds → SetNoCapacity (cs ++ ds)
-    both_set_none [] ds first second = second
-    both_set_none (c ∷ cs) ds first second = (first.0, both_set_none cs ds first.1 second)
-
     upsert_sets_none : (own : Result (Option V) OutOfMemory) (put : Option (V × Result V (InsertRefused K V))) → SetNone {P = P} (Upserts key hash now own put)
     upsert_sets_none own None calls replies fits = get_sets_none own calls replies fits
     upsert_sets_none own (Some (value, answer)) calls replies (asked, got, later, answers, gets, puts, is, replied) =
@@ -90,6 +97,49 @@ module _ {K V P : Type 0} where
         subst SetNoCapacity (sym is) (both_set_none asked later (get_sets_none own asked got gets) (made_sets_none value answer later answers puts))
     compute_sets_none own (Some (Takes taken)) calls replies (asked, got, later, answers, gets, takes, is, replied) =
         subst SetNoCapacity (sym is) (both_set_none asked later (get_sets_none own asked got gets) (remove_sets_none taken later answers takes))
+
+module _ {K V P : Type 0} where
+  turn_sets_none : (First Second : List (Call K V P) → List (Reply K V P) → Type 0) → SetNone First → SetNone Second → SetNone (InTurn First Second)
+  turn_sets_none First Second first second calls replies (asked, got, later, answers, begun, ended, is, replied) = subst SetNoCapacity (sym is) (both_set_none asked later (first asked got begun) (second later answers ended))
+
+  each_sets_none : {A : Type 0} (Step : A → List (Call K V P) → List (Reply K V P) → Type 0) → ((x : A) → SetNone (Step x)) → (xs : List A) → SetNone (Each Step xs)
+  each_sets_none Step one [] calls replies (none, replied) = subst SetNoCapacity (sym none) tt
+  each_sets_none Step one (x ∷ xs) calls replies fits = turn_sets_none (Step x) (Each Step xs) (one x) (each_sets_none Step one xs) calls replies fits
+
+  module _ (hash_of : K → ℕ) (now : Instant) where
+    item_sets_none : (item : K × V) → SetNone {P = P} (InsertsItem hash_of now item)
+    item_sets_none item calls replies fits = insert_sets_none item.0 (hash_of item.0) now item.1 (Ok tt) calls replies fits
+
+    insert_many_sets_none : (items : List (K × V)) (a : Result (Unit {0}) (InsertManyRefused K V)) → SetNone {P = P} (InsertsMany hash_of now items a)
+    insert_many_sets_none items (Ok all) calls replies fits = each_sets_none (InsertsItem hash_of now) item_sets_none items calls replies fits
+    insert_many_sets_none items (Err e) calls replies (put, all, done, fits) =
+        turn_sets_none (Each (InsertsItem hash_of now) put) (InsertsEntry e.refused.key (hash_of e.refused.key) e.refused.value now (Err e.refused)) (each_sets_none (InsertsItem hash_of now) item_sets_none put) (insert_sets_none e.refused.key (hash_of e.refused.key) now e.refused.value (Err e.refused)) calls replies fits
+
+    invalidate_sets_none : (answer : Result (Unit {0}) (NotTold V)) (key : K) → SetNone {P = P} (Invalidates hash_of now answer key)
+    invalidate_sets_none answer key calls replies (taken, is, fits) = remove_sets_none key (hash_of key) now taken calls replies fits
+
+    invalidate_many_sets_none : (keys : List K) (a : Result (Unit {0}) (InvalidateManyRefused V)) → SetNone {P = P} (InvalidatesMany hash_of now keys a)
+    invalidate_many_sets_none keys (Ok all) calls replies fits = each_sets_none (Invalidates hash_of now (Ok tt)) (invalidate_sets_none (Ok tt)) keys calls replies fits
+    invalidate_many_sets_none keys (Err e) calls replies (before, key, after, all, done, fits) =
+        turn_sets_none (Each (Invalidates hash_of now (Ok tt)) before) (Invalidates hash_of now (Err e.refused) key) (each_sets_none (Invalidates hash_of now (Ok tt)) (invalidate_sets_none (Ok tt)) before) (invalidate_sets_none (Err e.refused) key) calls replies fits
+
+    module _ (is_clone : V → V → Type 0) where
+      found_sets_none : (item : K × Option V) → SetNone {P = P} (GetsItem is_clone hash_of now item)
+      found_sets_none item calls replies (own, copied, fits) = get_sets_none item.0 (hash_of item.0) now (Ok own) calls replies fits
+
+      get_many_sets_none : (keys : List K) (a : Result (Vec (Option V) Global) (GetManyRefused V)) → SetNone {P = P} (GetsMany is_clone hash_of now keys a)
+      get_many_sets_none keys (Ok found) calls replies (got, asked, are, fits) = each_sets_none (GetsItem is_clone hash_of now) found_sets_none got calls replies fits
+      get_many_sets_none keys (Err e) calls replies (inl (empty, none, replied)) = subst SetNoCapacity (sym none) tt
+      get_many_sets_none keys (Err e) calls replies (inr (got, key, after, asked, are, refused, fits)) =
+          turn_sets_none (Each (GetsItem is_clone hash_of now) got) (GetsValue key (hash_of key) now (Err refused)) (each_sets_none (GetsItem is_clone hash_of now) found_sets_none got) (get_sets_none key (hash_of key) now (Err refused)) calls replies fits
+
+-- what each call for many stands for sets none
+pub many_set_none : (K V P : Type 0) (is_clone : V → V → Type 0) (hash_of : K → ℕ) (now : Instant) → ManySetNoCapacity K V P is_clone hash_of now
+many_set_none K V P is_clone hash_of now = record {
+  insert_many = insert_many_sets_none hash_of now;
+  get_many = get_many_sets_none hash_of now is_clone;
+  invalidate_many = invalidate_many_sets_none hash_of now;
+}
 
 -- what each call stands for sets no capacity
 pub calls_set_none : (K V P E : Type 0) (key : K) (hash : ℕ) (now : Instant) → CallsSetNoCapacity K V P E key hash now

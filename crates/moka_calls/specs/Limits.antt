@@ -1,5 +1,7 @@
 -- What limits a cache stays as it is, its times, its policy and its capacity, if no call sets the capacity.
 use Rattle.std.specs.Prelude.{◌≡◌, ℕ, List, [], ◌∷◌, Option, Result, ⊤}
+use Rattle.std.specs.declared.alloc.Global.{Global}
+use Rattle.std.specs.declared.vec.Vec.{Vec}
 use Rattle.moka_parts.specs.declared.calls.Call.{Call}
 use Rattle.moka_parts.specs.declared.calls.Call.TheVariants as call
 use Rattle.moka_parts.specs.declared.calls.Reply.{Reply}
@@ -8,7 +10,11 @@ use Rattle.moka_parts.specs.declared.error.OutOfMemory.{OutOfMemory}
 use Rattle.moka_parts.specs.declared.policy.Instant.{Instant}
 use Rattle.moka_parts.specs.Runs.{Engine}
 use Rattle.moka_parts.specs.State.{State, Meaning}
+use Rattle.moka_calls.specs.declared.many.GetManyRefused.{GetManyRefused}
+use Rattle.moka_calls.specs.declared.many.InsertManyRefused.{InsertManyRefused}
+use Rattle.moka_calls.specs.declared.many.InvalidateManyRefused.{InvalidateManyRefused}
 use Rattle.moka_calls.specs.Computing.{Computed, Computes, Upserts}
+use Rattle.moka_calls.specs.Many.{GetsMany, InsertsMany, InvalidatesMany}
 use Rattle.moka_calls.specs.Synchronous.{Made, InsertsEntry, GetsValue, RemovesEntry, GetsOrInserts, GetsOrInsertsIfMade, GetsOrInsertsIfNoError}
 
 -- the settings and the capacity are as they were
@@ -53,3 +59,13 @@ pub record CallsSetNoCapacity (K V P E : Type 0) (key : K) (hash : ℕ) (now : I
       SetNone {P = P} (Upserts key hash now own put)
   pub compute_with : (own : Result (Option V) OutOfMemory) (done : Option (Computed K V)) →
       SetNone {P = P} (Computes key hash now own done)
+
+-- nor does what each call for many stands for
+pub record ManySetNoCapacity (K V P : Type 0) (is_clone : V → V → Type 0) (hash_of : K → ℕ)
+    (now : Instant) : Type 0 where
+  pub insert_many : (items : List (K × V)) (a : Result (Unit {0}) (InsertManyRefused K V)) →
+      SetNone {P = P} (InsertsMany hash_of now items a)
+  pub get_many : (keys : List K) (a : Result (Vec (Option V) Global) (GetManyRefused V)) →
+      SetNone {P = P} (GetsMany is_clone hash_of now keys a)
+  pub invalidate_many : (keys : List K) (a : Result (Unit {0}) (InvalidateManyRefused V)) →
+      SetNone {P = P} (InvalidatesMany hash_of now keys a)

@@ -1,7 +1,7 @@
 //! Laws of the calls that a synchronous cache made. None of these functions does anything: the contract of each is a
 //! law.
 ghost use Rattle.moka_calls.specs.Removed.{counting, CountsHeard, CountsRemovals, PassesOn};
-ghost use Rattle.moka_calls.specs.Limits.{CallsSetNoCapacity, KeepsLimits};
+ghost use Rattle.moka_calls.specs.Limits.{CallsSetNoCapacity, KeepsLimits, ManySetNoCapacity};
 ghost use Rattle.moka_parts.specs.declared.policy.Instant.{Instant};
 ghost use Rattle.std.specs.Prelude.{ℕ};
 ghost use Rattle.moka_calls.specs.Synchronous.{meaning_of, hears_clones};
@@ -210,4 +210,9 @@ pub fn keeps_limits<
 >()
     ensures limits { KeepsLimits S (meaning_of K.eq L.tells P.says W.weighs C.reads X.created X.read X.updated) }
     ensures calls { (key : K) (hash : ℕ) (now : Instant) → CallsSetNoCapacity K V P E key hash now }
+{}
+
+/// Nor do those that `insert_many`, `get_many` and `invalidate_many` stand for.
+pub fn calls_for_many_set_no_capacity<K, V: Clone, P>()
+    ensures { (hash_of : K → ℕ) (now : Instant) → ManySetNoCapacity K V P V.is_clone hash_of now }
 {}

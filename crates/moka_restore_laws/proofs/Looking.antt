@@ -63,9 +63,6 @@ module _ {K V X P W : Type 0} (weighs : W → K → V → ℕ → Type 0) (says 
       go (inl none) = inl (ap (λ (x : Settings X W). x.expiry) quiet.settings ∙ none)
       go (inr early) = inr (λ n q there. let was = quiet.keeps n q there in let before = early n was.0 was.1 in rw was.2.1 before)
 
-  quiet_itself : (now : ℕ) (s : State K V X P W) → IsRoomyFor weighs [] s → IsQuiet now s s
-  quiet_itself now s roomy = record { settings = refl; there = λ n r there fresh. (r.applied, there); keeps = λ n q there. (q, there, (q.applied, refl)); roomy = roomy }
-
   module _ (read : X → K → V → ℕ → Option ℕ → ℕ → Option ℕ) (before after : List ℕ) (now : ℕ) where
     -- a run if one is due
     due_lasts : (s : State K V X P W) (queued : ℕ) (e : Events K V) (t : State K V X P W) → IsRoomyFor weighs [] s → RunsIfDue (ListedRun says read before after) s queued now e t → KeepsUnexpired now s t × IsRoomyFor weighs [] t

@@ -50,8 +50,8 @@ module _ {K V S X L P W C : Type 0} (m : Meaning K V X L P W C (Unit {0})) (hash
 pub record RestoresAmongCalls {K V S X L P W C : Type 0} (m : Meaning K V X L P W C (Unit {0}))
     (hash_of : S → K → ℕ) : Type 0 where
   -- what `restore` ensures is that entries were put back: all of them, or those before the one that is refused
-  pub restored : (now : Instant) (items : List (Restored K V)) (old new : Engine K V S X L P W) (clock clock_after : C) →
-      PutsManyBack m hash_of now items (Ok tt) old clock new clock_after →
+  pub restored : (now : Instant) (items : List (Restored K V)) (old new : Engine K V S X L P W)
+      (clock clock_after : C) → PutsManyBack m hash_of now items (Ok tt) old clock new clock_after →
       PartsMade m hash_of (put_back now items) old clock new clock_after
   pub refused : (now : Instant) (items : List (Restored K V)) (e : RestoreManyRefused K V)
       (old new : Engine K V S X L P W) (clock clock_after : C) →

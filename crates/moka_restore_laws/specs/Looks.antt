@@ -40,8 +40,8 @@ module _ {K V P : Type 0} where
 abbrev pub AreWrittenBy : {K V X P W : Type 0} → State K V X P W → ℕ → Type 0
 AreWrittenBy {K} {V} s moment = (n : ℕ) (r : Record K V) → get s.records n ≡ Some r → r.written.0 ≤ moment
 
--- a cache and one that was made again of it, of which what is saved and put back is all that they differ by: nothing but
--- time takes an entry out of either
+-- a cache, and one that was made again of it with the same expiry, if there is one; and nothing but time takes an entry
+-- out of either
 pub record IsLikeFirst {K V X P W : Type 0} (weighs : W → K → V → ℕ → Type 0) (eq : K → K → Bool)
     (says : P → K → V → Bool → Type 0) (is_key_clone : K → K → Type 0) (is_value_clone : V → V → Type 0) (saved put : ℕ)
     (items : List (Restored K V)) (first start second : State K V X P W) : Type 0 where

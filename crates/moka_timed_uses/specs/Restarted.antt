@@ -1,18 +1,21 @@
 -- Sessions that were saved, and put back.
-use Rattle.std.specs.Prelude.{◌≡◌, ◌==◌, ◌≤◌, ℕ, Bool, false, List, Some, None, Contains}
+use Rattle.std.specs.Prelude.{◌≡◌, ◌==◌, ◌≤◌, ℕ, Bool, false, List, [], Some, None, Contains}
 use Rattle.std.specs.FinMap.{get, empty}
-use Rattle.std.specs.List.{AllByRecursion}
+use Rattle.std.specs.List.{AllByRecursion, AllZip}
+use Rattle.moka_engine.specs.parts.Call.{Call}
 use Rattle.moka_engine.specs.parts.Instant.{Instant}
 use Rattle.moka_engine.specs.parts.Record.{Record}
+use Rattle.moka_engine.specs.parts.Reply.{Reply}
 use Rattle.moka_engine.specs.parts.Reply.TheVariants as reply
 use Rattle.moka_engine.specs.Config.{Config}
 use Rattle.moka_engine.specs.Runs.{Engine}
 use Rattle.moka_engine.specs.State.{State, Meaning}
 use Rattle.moka_engine.specs.declared.base_cache.restores.Restored.{Restored}
-use Rattle.moka_cache.specs.Saved.{AddsOnly, AreThere, IsOfItem, IsRestored, IsRoomyFor, PutsAllBack, has_expired}
-use Rattle.moka_cache.specs.Synchronous.{Synchronous, Just, Makes, own_run}
+use Rattle.moka_cache.specs.Saved.{AddsOnly, AreThere, IsOfItem, IsRestored, IsRoomyFor, PutsAllBack, TakesOnlyExpired, has_expired}
+use Rattle.moka_cache.specs.Synchronous.{Synchronous, Just, Made, Makes, own_run}
 use Rattle.moka_cache.specs.Unsent.{HidesNoMore}
 use Rattle.moka_restore_laws.specs.Again.{AnswerAlike}
+use Rattle.moka_restore_laws.specs.Looks.{AreInTime, IsAnswered, LookAlike}
 use Rattle.moka_uses.specs.Made.{IsNew}
 
 -- the cache made a run of maintenance at the moment, and no other call
@@ -48,6 +51,8 @@ pub record ArePutBack {X P W : Type 0} (weighs : W → ℕ → ℕ → ℕ → T
   pub roomy : IsRoomyFor weighs saved begun
   pub live : begun.settings.time_to_live ≡ None
   pub idles : begun.settings.time_to_idle ≡ Some idle
+  pub expiry : begun.settings.expiry ≡ None
+  pub lasts : TakesOnlyExpired weighs saved put begun s
   pub there : AreThere weighs (λ a b. a == b) put saved begun s
   pub adds : AddsOnly saved begun s
   pub hides : HidesNoMore begun s
@@ -59,3 +64,21 @@ abbrev pub AreHandedOver : {X P W : Type 0} → (P → ℕ → ℕ → Bool → 
 AreHandedOver says idle saved put first second = first.settings.time_to_idle ≡ Some idle →
     first.settings.time_to_live ≡ None →
     (user now : ℕ) → saved ≤ now → put ≤ now → AnswerAlike (λ a b. a == b) says (λ a b. b ≡ a) first second user now
+
+-- nothing but this idle time takes a session out
+pub record EndsByIdling {X P W : Type 0} (idle : ℕ) (s : State ℕ ℕ X P W) : Type 0 where
+  pub idles : s.settings.time_to_idle ≡ Some idle
+  pub live : s.settings.time_to_live ≡ None
+  pub expiry : s.settings.expiry ≡ None
+  pub unbounded : s.capacity ≡ None
+  pub bound : s.invalid_before ≡ None
+  pub predicates : s.predicates ≡ []
+
+-- if so, both answer the same look-ups alike, however many and though each counts as a use, from those moments on
+abbrev pub AreUsedAlike : {S X L P W : Type 0} → Meaning ℕ ℕ X L P W (Unit {0}) (Unit {0}) → ℕ → ℕ → ℕ →
+    Engine ℕ ℕ S X L P W → Engine ℕ ℕ S X L P W → Type 0
+AreUsedAlike {S} {X} {L} {P} {W} m idle saved put first second = EndsByIdling idle first.state → (now : ℕ)
+    (after other_after : Engine ℕ ℕ S X L P W) (calls others : List (Call ℕ ℕ P))
+    (replies answers : List (Reply ℕ ℕ P)) → saved ≤ now → put ≤ now → AllZip LookAlike calls others →
+    AreInTime now calls → Made m calls replies first tt after tt → Made m others answers second tt other_after tt →
+    AllByRecursion IsAnswered replies → AllByRecursion IsAnswered answers → answers ≡ replies

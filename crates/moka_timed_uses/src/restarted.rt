@@ -6,12 +6,16 @@ ghost use Rattle.moka_engine.specs.Config.{default_config};
 ghost use Rattle.moka_engine.specs.Snapshots.{scene_of};
 ghost use Rattle.moka_engine.specs.declared.base_cache.restores.Restored.{Restored};
 ghost use Rattle.moka_cache.specs.Saved.{HasOnlyMembers, AreSaved};
+ghost use Rattle.moka_cache.specs.Laws.{anytime};
 ghost use Rattle.moka_uses.specs.Made.{plain_meaning};
-ghost use Rattle.moka_timed_uses.specs.Restarted.{AreAmong, AreBack, AreBegunAgain, AreHandedOver, ArePutBack, Runs};
+ghost use Rattle.moka_timed_uses.specs.Restarted.{AreAmong, AreBack, AreBegunAgain, AreHandedOver, ArePutBack, AreUsedAlike, Runs};
 
 use crate::sessions::Sessions;
-use moka_engine::{CacheConfig, Clock, NoExpiry, NoPredicate, NoWeigher, OutOfMemory, Restored};
-use moka_restore_laws::laws::made_again_answers_alike;
+use moka_engine::{
+    CacheConfig, Clock, DefaultHasher, NoExpiry, NoListener, NoPredicate, NoWeigher, OutOfMemory,
+    Restored,
+};
+use moka_restore_laws::laws::{look_ups_answer_alike, made_again_answers_alike};
 use moka_timed::TimedCache;
 use std::alloc::Global;
 use std::time::Duration;
@@ -100,7 +104,8 @@ pub fn start_again_within<C: Clock + Drop>(
 }
 
 /// New sessions in place of others. If those have the same idle time and no time to live, each user has the same
-/// session in both, from the moments on at which they were saved and put back, until either is used or changed.
+/// session in both, from the moments on at which they were saved and put back, until either is used or changed. If
+/// nothing else ends them, both answer any list of look-ups alike, though each counts as a use.
 ///
 /// # Errors
 /// `OutOfMemory`
@@ -120,9 +125,21 @@ pub fn hand_over<C: Clock, D: Clock + Drop>(
         × IfOk result (λ again. (begun : Instant) × (ticked : D) × D.reads clock begun ticked
         × (put : Instant) × (read_again : D) × D.reads ticked put read_again
         × AreHandedOver (λ _ _ _ answer. answer ≡ false)
-        (as_nanos idle) saved.0 put.0 sessions.new.cache.engine.state again.cache.engine.state) }
+        (as_nanos idle) saved.0 put.0 sessions.new.cache.engine.state again.cache.engine.state
+        × AreUsedAlike (anytime (plain_meaning (λ a b. a == b) C.reads))
+        (as_nanos idle) saved.0 put.0 sessions.new.cache.engine again.cache.engine) }
 {
     made_again_answers_alike::<u64, u64, NoExpiry, NoPredicate, NoWeigher>();
+    look_ups_answer_alike::<
+        u64,
+        u64,
+        DefaultHasher,
+        NoExpiry,
+        NoListener,
+        NoPredicate,
+        NoWeigher,
+        C,
+    >();
     let saved = save(alloc, sessions)?;
     sessions.cache.engine().invariant_holds();
     let again = start_again(alloc, idle, clock, saved)?;

@@ -163,3 +163,7 @@ pub fn keeps_limits<
     E,
 >()
 {}
+
+/// Nor do those that `insert_many`, `get_many` and `invalidate_many` stand for.
+pub fn calls_for_many_set_no_capacity<K, V: Clone, P>()
+{}

@@ -3,8 +3,11 @@
 use crate::support::prelude::*;
 
 use crate::proved_tests::moka_timed_uses::sessions::Sessions;
-use crate::engine::moka_engine::{CacheConfig, Clock, NoExpiry, NoPredicate, NoWeigher, OutOfMemory, Restored};
-use crate::proved_tests::moka_restore_laws::laws::made_again_answers_alike;
+use crate::engine::moka_engine::{
+    CacheConfig, Clock, DefaultHasher, NoExpiry, NoListener, NoPredicate, NoWeigher, OutOfMemory,
+    Restored,
+};
+use crate::proved_tests::moka_restore_laws::laws::{look_ups_answer_alike, made_again_answers_alike};
 use crate::proved_tests::moka_timed::TimedCache;
 use crate::support::alloc::Global;
 use crate::support::time::Duration;
@@ -68,7 +71,8 @@ pub fn start_again_within<C: Clock>(
 }
 
 /// New sessions in place of others. If those have the same idle time and no time to live, each user has the same
-/// session in both, from the moments on at which they were saved and put back, until either is used or changed.
+/// session in both, from the moments on at which they were saved and put back, until either is used or changed. If
+/// nothing else ends them, both answer any list of look-ups alike, though each counts as a use.
 ///
 /// # Errors
 /// `OutOfMemory`
@@ -80,6 +84,16 @@ pub fn hand_over<C: Clock, D: Clock>(
 ) -> Result<Sessions<D>, OutOfMemory>
 {
     made_again_answers_alike::<u64, u64, NoExpiry, NoPredicate, NoWeigher>();
+    look_ups_answer_alike::<
+        u64,
+        u64,
+        DefaultHasher,
+        NoExpiry,
+        NoListener,
+        NoPredicate,
+        NoWeigher,
+        C,
+    >();
     let saved = save(alloc, sessions)?;
     sessions.cache.engine().invariant_holds();
     let again = start_again(alloc, idle, clock, saved)?;

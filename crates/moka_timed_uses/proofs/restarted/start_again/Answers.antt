@@ -29,6 +29,8 @@ returns-in-Ok g c =
       };
       live = ap (λ s. s.engine.state.settings.time_to_live) new.2;
       idles = idles;
+      expiry = ap (λ s. s.engine.state.settings.expiry) new.2;
+      lasts = lasts;
       there = there;
       adds = c.restore.ensures.adds;
       hides = c.restore.ensures.hides;
