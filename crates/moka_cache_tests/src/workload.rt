@@ -40,7 +40,7 @@ const READ_THROUGH: [u64; 23] = [
     3, 4, 0, 0, 10, 20, 10, 30, 5, 0, 384, 0, 7, 3, 2, 0, 20, 10, 30, 6, 0, 5, 0,
 ];
 
-// Two keys are put, one is read, and both are looked for: where reads count, what was read is still there.
+// Two keys are put, one is read, and both are looked for: if reads count, what was read is still there.
 const AGED: [u64; 33] = [
     2, 2, 0, 0, 10, 20, 5, 0, 384, 0, 6, 0, 5, 0, 1, 1, 0, 0, 10, 6, 0, 5, 0, 1, 2, 0, 0, 10, 20,
     5, 0, 384, 0,

@@ -670,8 +670,8 @@ fn entry_of_record<K, V>(taken: Record<K, V>) -> KvEntry<K, V>
     }
 }
 
-// Records are also kept in the order of their writing where they have a time to live or predicates may cover them, and
-// timers are kept where an expiry is set.
+// Records are also kept in the order of their writing if they have a time to live or predicates may cover them, and
+// timers are kept if an expiry is set.
 fn layout_of<X>(
     policy: &ExpirationPolicy<X>,
     invalidator_enabled: bool,

@@ -110,7 +110,7 @@ pub fn explain_script<W: Write>(alloc: Global, script: Script, out: &mut W) -> R
     Ok(())
 }
 
-/// Makes a call, and says what explains its reply. Where runs start by themselves, as `automatic` says, a get may make
+/// Makes a call, and says what explains its reply. If runs start by themselves, as `automatic` says, a get may make
 /// one, so all keys are looked at too.
 ///
 /// # Errors

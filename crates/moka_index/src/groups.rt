@@ -45,7 +45,7 @@ fn behind(at: usize, count: usize) -> usize
     if next < count { next } else { 0 }
 }
 
-/// Groups with no places, or an error where there is no memory.
+/// Groups with no places, or an error if there is no memory.
 pub(crate) fn empty_groups(alloc: Global, count: usize) -> Result<Vec<Group>, AllocError>
     ensures { IfOk result (λ groups. groups.items ≡ replicate count empty_group) }
 {

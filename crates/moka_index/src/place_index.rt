@@ -75,7 +75,7 @@ impl PlaceIndex {
         self.len() == 0
     }
 
-    /// Makes room for `additional` more places, and changes nothing where there is room. Where there is too little, the
+    /// Makes room for `additional` more places, and changes nothing if there is room. If there is too little, the
     /// places that fit are afterwards at least twice as many as before, or 2^34, so an index grows seldom as it fills.
     /// An error leaves the index as it was: there is no memory, or the index would have more than 2^34 places.
     #[inline(always)]
@@ -97,7 +97,7 @@ impl PlaceIndex {
         self.grow(additional)
     }
 
-    // The same where there is no room for so many.
+    // The same if there is no room for so many.
     #[cold]
     fn grow(&mut self, additional: usize) -> Result<(), AllocError>
         requires { self.old.room < additional }
@@ -133,7 +133,7 @@ impl PlaceIndex {
         }
     }
 
-    /// Adds a new place under its hash, where there is room.
+    /// Adds a new place under its hash, if there is room.
     pub fn insert(&mut self, hash: u32, place: usize)
         requires room { 0 < self.old.room }
         requires fresh { finite.get self.old.entries place ≡ None }

@@ -127,7 +127,7 @@ fn apply_each_read<K: Eq + Hash, V, S: BuildHasher>(
     }
 }
 
-// Makes of the store what a read does: the member of a record in the map comes to the back. Where the read renewed the
+// Makes of the store what a read does: the member of a record in the map comes to the back. If the read renewed the
 // expiry, the timer is set again.
 fn apply_read<K: Eq + Hash, V, S: BuildHasher>(store: &mut Store<K, V, S>, queued: QueuedRead)
     requires { IsReadAt store.old.places queued.place (read_of queued) }

@@ -21,7 +21,7 @@ use moka_store::Store;
 use std::hash::{BuildHasher, Hash};
 use std::time::Duration;
 
-// How many rows are read ahead at most: as many as a run removes where one is made at each 64th operation.
+// How many rows are read ahead at most: as many as a run removes if one is made at each 64th operation.
 const MOST_AHEAD: u128 = 64;
 
 /// What a run goes by.
@@ -154,7 +154,7 @@ where
     Pass::joined(due, by_write, by_read, scan_has_more, surplus)
 }
 
-// A step of a pass, where it is to be taken.
+// A step of a pass, if it is to be taken.
 fn take_step<K: Eq + Hash + Drop, V: Drop, S: BuildHasher, L: Listener<K, V>>(
     store: &mut Store<K, V, S>,
     notifier: &mut RemovalNotifier<L>,
@@ -177,7 +177,7 @@ fn take_step<K: Eq + Hash + Drop, V: Drop, S: BuildHasher, L: Listener<K, V>>(
     sweep_along(store, notifier, terms.tests, sweep, terms.batch)
 }
 
-// Reads the rows of the members that are about to be evicted. Where entries weigh more than 1 these are fewer, and some
+// Reads the rows of the members that are about to be evicted. If entries weigh more than 1 these are fewer, and some
 // rows are read in vain.
 fn read_ahead<K: Eq + Hash, V, S: BuildHasher>(
     store: &mut Store<K, V, S>,
@@ -212,7 +212,7 @@ fn is_taken<K: Eq + Hash, V, S: BuildHasher>(
     }
 }
 
-// Reads the clock where a limit is given.
+// Reads the clock if a limit is given.
 fn start<C: Clock>(limit: Option<Duration>, clock: &mut C) -> Option<Instant>
     ensures { Starts C.reads (option_map as_nanos limit) clock.old result clock.new }
 {
@@ -222,7 +222,7 @@ fn start<C: Clock>(limit: Option<Duration>, clock: &mut C) -> Option<Instant>
     }
 }
 
-// Reads the clock again where it was read at the start. Whether the limit has passed since then.
+// Reads the clock again if it was read at the start. Whether the limit has passed since then.
 fn is_late<C: Clock>(started: Option<Instant>, limit: Option<Duration>, clock: &mut C) -> bool
     ensures { Checks C.reads started (option_map as_nanos limit) clock.old result clock.new }
 {

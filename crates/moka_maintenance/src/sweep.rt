@@ -1,4 +1,4 @@
-//! Sweeps along the orders of writing and of access: the front leaves where it has expired or is invalid, or the
+//! Sweeps along the orders of writing and of access: the front leaves if it has expired or is invalid, or the
 //! capacity is exceeded.
 //!
 //! moka: `sync::base_cache::Inner::remove_expired_wo`, `Inner::remove_expired_ao`, `Inner::evict_lru_entries`.
@@ -177,7 +177,7 @@ fn take_turn<K: Eq + Hash + Drop, V: Drop, S: BuildHasher, L: Listener<K, V>>(
     Turn::Removed
 }
 
-// The front of the sweep's order, where the sweep still has to go on.
+// The front of the sweep's order, if the sweep still has to go on.
 fn next_of<K: Eq + Hash, V, S: BuildHasher>(
     store: &Store<K, V, S>,
     tests: Tests,

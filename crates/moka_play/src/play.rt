@@ -21,7 +21,7 @@ use std::alloc::Global;
 use std::hash::{BuildHasherDefault, FoldHasher};
 use std::time::Duration;
 
-/// The first ticket where a script sets none.
+/// The first ticket if a script sets none.
 const FIRST_TICKET: u64 = 1;
 
 /// A cache that a script's calls are made on.

@@ -8,7 +8,7 @@ use moka_script::failure::Failure;
 /// The path of the script's file, if the arguments name one. The first argument is the program's name.
 ///
 /// # Errors
-/// `Usage` where there are more arguments.
+/// `Usage` if there are more arguments.
 pub fn script_path(arguments: &[String]) -> Result<Option<&str>, Failure>
     ensures { result_map_both option_copied (λ failure. failure) result ≡ path_of (map string_bytes arguments.now) }
 {

@@ -17,8 +17,8 @@ use std::io::{self, BufWriter, Write};
 use std::process::ExitCode;
 use std::rt::Env;
 
-/// Ends with what `replay` answers as the status, with 2 where there are more arguments than one,
-/// and with 3 where the file cannot be opened.
+/// Ends with what `replay` answers as the status, with 2 if there are more arguments than one,
+/// and with 3 if the file cannot be opened.
 fn main(rt: HostRuntime) -> ExitCode {
     let mut err = rt.stderr();
     let status = match arguments_of(&rt) {
@@ -39,7 +39,7 @@ fn arguments_of<R: Env + AllocGlobal>(rt: &R) -> Result<Vec<String>, Failure> {
     Ok(env::args(rt)?.collect(rt.alloc())?)
 }
 
-/// Replays a script over a buffer in front of a writer. Where memory for the buffer is refused, one line says so.
+/// Replays a script over a buffer in front of a writer. If memory for the buffer is refused, one line says so.
 fn replay_buffered<R: Source + Drop, W: Write + Drop, E: Sink>(
     alloc: Global,
     input: io::Result<R>,

@@ -14,9 +14,9 @@ use std::alloc::Global;
 use std::io;
 
 /// Replays the script that a reader gives: prints a line for each reply, and then the count and
-/// the weight. Where it stops, one line says why, and nothing is printed.
+/// the weight. If it stops, one line says why, and nothing is printed.
 ///
-/// The answer is the status to end with: 0, 2 where the script is faulty, and 3 if memory, a
+/// The answer is the status to end with: 0, 2 if the script is faulty, and 3 if memory, a
 /// read or a write was refused, also to a single reply.
 pub fn replay<R: Source, W: Sink, E: Sink>(
     alloc: Global,
@@ -32,7 +32,7 @@ pub fn replay<R: Source, W: Sink, E: Sink>(
     }
 }
 
-/// Replays the script of an input that was to be opened. Where it could not be, one line says so.
+/// Replays the script of an input that was to be opened. If it could not be, one line says so.
 pub fn replay_opened<R: Source + Drop, W: Sink, E: Sink>(
     alloc: Global,
     input: io::Result<R>,

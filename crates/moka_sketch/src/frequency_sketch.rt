@@ -48,7 +48,7 @@ impl Model for FrequencySketch {
 }
 
 /// The length of the table, in words, for a size asked for: the least power of two that is no less than the size,
-/// which counts as 128 where it is less, and as 2 ^ 30 where it is more.
+/// which counts as 128 if it is less, and as 2 ^ 30 if it is more.
 pub fn table_len_for(size: u64) -> usize
     ensures value { result ≡ table_length_for size }
 
@@ -100,9 +100,9 @@ impl FrequencySketch {
         })
     }
 
-    /// Makes a fresh table for a size asked for, also where there is one already, whose counts are then lost.
+    /// Makes a fresh table for a size asked for, even if there is one already, whose counts are then lost.
     ///
-    /// A table of 128 words asks for no memory. Where a longer one is refused, this is said, and the length is 128:
+    /// A table of 128 words asks for no memory. If a longer one is refused, this is said, and the length is 128:
     /// so the sketch is always on afterwards.
     pub fn ensure_capacity(&mut self, size: u64) -> Result<(), AllocError>
         ensures ok { OnOk result (self.new ≡ Some (no_counts (table_length_for size))) }

@@ -147,7 +147,7 @@ impl<K: Eq + Hash, V, S: BuildHasher> Store<K, V, S> {
     }
 
     /// Makes room for `additional` more records: in the index, for their rows, their places in the orders and their
-    /// timers. Where there is room, nothing changes. An error leaves all but the room as it was: there is no memory, or
+    /// timers. If there is room, nothing changes. An error leaves all but the room as it was: there is no memory, or
     /// a place would need more than 32 bits.
     #[inline(always)]
     pub fn reserve(&mut self, additional: usize) -> Result<(), AllocError>
@@ -467,8 +467,8 @@ impl<K: Eq + Hash, V, S: BuildHasher> Store<K, V, S> {
         let _none = self.timers.set(timer, handle.place as u64, None);
     }
 
-    /// The timer of the number at this handle, where timers are kept, stands at its record's expiry, or is taken out
-    /// where there is none. It takes no memory.
+    /// The timer of the number at this handle, if timers are kept, stands at its record's expiry, or is taken out
+    /// if there is none. It takes no memory.
     #[inline(always)]
     pub fn set_timer(&mut self, handle: Handle)
         requires handle { IsHandle self.old handle }
@@ -485,7 +485,7 @@ impl<K: Eq + Hash, V, S: BuildHasher> Store<K, V, S> {
         let _before = self.table.set_timer(handle.place, timer);
     }
 
-    /// Takes a timer out whose moment is at or before `now`. The answer is whose it was, and None exactly where there
+    /// Takes a timer out whose moment is at or before `now`. The answer is whose it was, and None exactly if there
     /// is none.
     pub fn due(&mut self, now: Instant) -> Option<Handle>
         ensures due { IfSome result (λ h. (t : ℕ) × (finite.get self.old.timers h.number ≡ Some t) × (t ≤ now.0)) }
@@ -502,7 +502,7 @@ impl<K: Eq + Hash, V, S: BuildHasher> Store<K, V, S> {
         Some(changes::handle_at(&self.table, place))
     }
 
-    /// The first member in the order of writing, where that is kept.
+    /// The first member in the order of writing, if that is kept.
     pub fn front_written(&self) -> Option<Handle>
         ensures ordered { IfSome result (IsOrdered self.now) }
         ensures front { option_map (λ h. h.number) result ≡ slice_get self.now.written 0 }

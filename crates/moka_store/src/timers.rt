@@ -1,4 +1,4 @@
-//! The timers of rows, where an expiry is set.
+//! The timers of rows, if an expiry is set.
 ghost use Rattle.std.specs.Prelude.{◌≡◌, ◌+◌, ◌<◌, ◌≤◌, ◌&&◌, ◌⊎◌, ℕ, false, OnOk, IfOk, IsOk, IfSome, IfNone, is_some, None, Some, option_map};
 ghost use Rattle.std.specs.FinMap.{empty, get, len};
 ghost use Rattle.moka_parts.specs.Time.{moment_of};
@@ -11,9 +11,9 @@ use moka_wheel::{Due, TimerWheel};
 use std::alloc::{AllocError, Global};
 use std::marker::Model;
 
-/// Timers of places, where an expiry is set. Where none is, each call does nothing.
+/// Timers of places, if an expiry is set. If none is, each call does nothing.
 ///
-/// moka: `common::timer_wheel::TimerWheel`, which is enabled where an expiry is set.
+/// moka: `common::timer_wheel::TimerWheel`, which is enabled if an expiry is set.
 pub(crate) struct Timers {
     wheel: Option<TimerWheel>,
 }
@@ -50,7 +50,7 @@ impl Timers {
         Ok(Timers { wheel })
     }
 
-    /// Makes room for so many timers in all, and changes nothing where there is room.
+    /// Makes room for so many timers in all, and changes nothing if there is room.
     #[inline(always)]
     pub fn reserve(&mut self, places: usize) -> Result<(), AllocError>
         ensures room { OnOk result (places ≤ self.new.most) }
@@ -83,7 +83,7 @@ impl Timers {
         set_in(self.wheel.as_mut()?, before, place, at)
     }
 
-    /// Takes a timer out whose moment is at or before `now`. The answer is None exactly where there is none.
+    /// Takes a timer out whose moment is at or before `now`. The answer is None exactly if there is none.
     pub fn due(&mut self, now: Instant) -> Option<Due>
         ensures due { IfSome result (λ d. get self.old.timers d.slot ≡ Some (record { number = d.number; at = d.at })) }
         ensures late { IfSome result (λ d. d.at ≤ now.0) }

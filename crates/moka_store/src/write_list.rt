@@ -1,4 +1,4 @@
-//! The order of writing, where it is kept, with the cursor of a scan.
+//! The order of writing, if it is kept, with the cursor of a scan.
 ghost use Rattle.std.specs.Prelude.{◌≡◌, ◌<◌, ◌≤◌, ◌⊎◌, ℕ, false, [], ◌∷◌, ◌++◌, length, OnOk, IfOk, IsOk, IfSome, IfNone, IsSome, is_some, None, Some, nat_eq, slice_get, if◌then◌else◌};
 ghost use Rattle.std.specs.Map.{lookup, remove_entry};
 ghost use Rattle.moka_store.specs.Listing.{node_past, IsCursor};
@@ -9,9 +9,9 @@ use moka_structures::OrderList;
 use std::alloc::{AllocError, Global};
 use std::marker::Model;
 
-/// The places of rows in the order of writing, where that order is kept, and a cursor at one of them.
+/// The places of rows in the order of writing, if that order is kept, and a cursor at one of them.
 ///
-/// Where it is not kept, each call does nothing.
+/// If it is not kept, each call does nothing.
 ///
 /// moka: `common::concurrent::deques::Deques::write_order`, with the cursor that `common::deque::Deque` has.
 pub(crate) struct WriteList {
@@ -52,7 +52,7 @@ impl WriteList {
         Ok(WriteList { list, cursor: None })
     }
 
-    /// Makes room for so many places in all, and changes nothing where there is room.
+    /// Makes room for so many places in all, and changes nothing if there is room.
     #[inline(always)]
     pub fn reserve(&mut self, places: usize) -> Result<(), AllocError>
         ensures room { OnOk result (places ≤ self.new.most) }

@@ -49,7 +49,7 @@ impl<T: Copy> Model for Older<T> {
 }
 
 impl<T: Copy> Older<T> {
-    /// Nothing is out, or an error where there is no memory.
+    /// Nothing is out, or an error if there is no memory.
     pub fn new(alloc: Global) -> Result<Self, AllocError>
         ensures items { IfOk result (λ o. o.items ≡ map.empty) }
     {
@@ -67,7 +67,7 @@ impl<T: Copy> Older<T> {
         self.table.len() + self.kept.len()
     }
 
-    /// Keeps room for `additional` more items, and changes nothing where there is room. An error takes neither items
+    /// Keeps room for `additional` more items, and changes nothing if there is room. An error takes neither items
     /// nor room away.
     #[inline(always)]
     pub fn reserve(&mut self, additional: usize) -> Result<(), AllocError>
@@ -83,7 +83,7 @@ impl<T: Copy> Older<T> {
         self.kept.reserve(additional)
     }
 
-    /// Hands an item out under a ticket above all that are out, where there is room.
+    /// Hands an item out under a ticket above all that are out, if there is room.
     pub fn hand_out(&mut self, ticket: u64, item: T)
         requires room { 0 < self.old.room }
         requires newest { (q : ℕ) → IsSome (map.get self.old.items q) → q < ticket }

@@ -118,7 +118,7 @@ impl<T: Copy> Model for OrderList<T> {
 }
 
 impl<T: Copy> OrderList<T> {
-    /// An empty list, or an error where there is no memory for the sentinel, which holds `blank`.
+    /// An empty list, or an error if there is no memory for the sentinel, which holds `blank`.
     ///
     /// moka: `Deque::new`.
     pub fn new(alloc: Global, blank: T) -> Result<Self, AllocError>
@@ -155,7 +155,7 @@ impl<T: Copy> OrderList<T> {
         self.len == 0
     }
 
-    /// Makes room for `additional` more values, and changes nothing where there is room. An error leaves the list as it
+    /// Makes room for `additional` more values, and changes nothing if there is room. An error leaves the list as it
     /// was: there is no memory, or the list would be longer than its slots can tell.
     #[inline(always)]
     pub fn reserve(&mut self, additional: usize) -> Result<(), AllocError>
@@ -177,7 +177,7 @@ impl<T: Copy> OrderList<T> {
         self.nodes.reserve(more)
     }
 
-    /// Puts a value behind all others, where there is room. The answer is its slot, which is not 0, and which no
+    /// Puts a value behind all others, if there is room. The answer is its slot, which is not 0, and which no
     /// other value has while it is in.
     ///
     /// moka: `Deque::push_back`.

@@ -47,7 +47,7 @@ impl<T: Copy> Model for Outstanding<T> {
 }
 
 impl<T: Copy> Outstanding<T> {
-    /// Nothing is out, or an error where there is no memory.
+    /// Nothing is out, or an error if there is no memory.
     pub fn new(alloc: Global) -> Result<Self, AllocError>
         ensures items { IfOk result (λ o. o.items ≡ map.empty) }
         ensures gets { IfOk result (λ o. (q : ℕ) → map.get o.items q ≡ None) }
@@ -76,7 +76,7 @@ impl<T: Copy> Outstanding<T> {
         self.len() == 0
     }
 
-    /// Keeps room for `additional` more items, and changes nothing where there is room. An error takes neither items
+    /// Keeps room for `additional` more items, and changes nothing if there is room. An error takes neither items
     /// nor room away.
     pub fn reserve(&mut self, additional: usize) -> Result<(), AllocError>
         ensures room { OnOk result (additional ≤ self.new.room) }
@@ -88,7 +88,7 @@ impl<T: Copy> Outstanding<T> {
         self.older.reserve(additional)
     }
 
-    /// Hands an item out under a ticket above all that are out, where there is room.
+    /// Hands an item out under a ticket above all that are out, if there is room.
     #[inline(always)]
     pub fn hand_out(&mut self, ticket: u64, item: T)
         requires room { 0 < self.old.room }

@@ -47,7 +47,7 @@ impl<T: Copy> Model for TicketTable<T> {
 }
 
 impl<T: Copy> TicketTable<T> {
-    /// Nothing is out, or an error where there is no memory.
+    /// Nothing is out, or an error if there is no memory.
     pub fn new(alloc: Global) -> Result<Self, AllocError>
         ensures items { IfOk result (λ o. o.items ≡ map.empty) }
     {
@@ -65,7 +65,7 @@ impl<T: Copy> TicketTable<T> {
         self.waiting.len()
     }
 
-    /// Makes room for `additional` more items, and changes nothing where there is room. An error takes neither items
+    /// Makes room for `additional` more items, and changes nothing if there is room. An error takes neither items
     /// nor room away.
     pub fn reserve(&mut self, additional: usize) -> Result<(), AllocError>
         ensures room { OnOk result (additional ≤ self.new.room) }
@@ -81,7 +81,7 @@ impl<T: Copy> TicketTable<T> {
         self.waiting.reserve(additional)
     }
 
-    /// Hands an item out under a ticket above all that are out, where there is room.
+    /// Hands an item out under a ticket above all that are out, if there is room.
     pub fn hand_out(&mut self, ticket: u64, item: T)
         requires room { 0 < self.old.room }
         requires newest { (q : ℕ) → IsSome (map.get self.old.items q) → q < ticket }

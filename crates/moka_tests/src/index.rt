@@ -1,4 +1,4 @@
-//! `moka_index`: the index finds what a plain table of its keys finds, also where its growths are refused.
+//! `moka_index`: the index finds what a plain table of its keys finds, also when its growths are refused.
 ghost use Rattle.std.specs.Prelude.{◌≡◌, ◌≢◌, ◌^◌, ◌<◌, ◌≤◌, ℕ, IfSome, None, OnOk, Some};
 ghost use Rattle.std.specs.FinMap as finite;
 
@@ -34,7 +34,7 @@ fn find(index: &PlaceIndex, hash: u32, key: u32) -> Option<usize>
     index.find(hash, |place| key_at(place) == key)
 }
 
-// Makes room for one more place, at the second attempt where the first is refused.
+// Makes room for one more place, at the second attempt if the first is refused.
 fn grow(index: &mut PlaceIndex) -> Result<(), AllocError>
     ensures room { OnOk result (1 ≤ index.new.room) }
     ensures entries { index.new.entries ≡ index.old.entries }

@@ -22,7 +22,7 @@ fn record(number: u64, value: u64) -> Record<u64, u64> {
     }
 }
 
-// Makes room for one more record, at the second attempt where the first is refused.
+// Makes room for one more record, at the second attempt if the first is refused.
 fn grow(table: &mut RecordTable<u64, u64>) -> Result<(), AllocError>
     ensures room { OnOk result (1 ≤ table.new.room) }
     ensures rows { table.new.rows ≡ table.old.rows }
@@ -33,7 +33,7 @@ fn grow(table: &mut RecordTable<u64, u64>) -> Result<(), AllocError>
     table.reserve(1)
 }
 
-// Whether a record is found where further growths are refused.
+// Whether a record is found if further growths are refused.
 #[tactic(auto, using(moka_store::proofs::Gets::map_calls))]
 fn keeps_a_record(alloc: Global) -> Result<bool, AllocError> {
     let mut table = RecordTable::new(alloc);

@@ -1,4 +1,4 @@
-//! `moka_wheel`: the wheel beside a plain table of its timers, also at earlier moments and where growths are refused.
+//! `moka_wheel`: the wheel beside a plain table of its timers, also at earlier moments and when growths are refused.
 ghost use Rattle.std.specs.Prelude.{◌<◌, ◌≤◌, OnOk};
 
 use crate::cases::assert_none;
@@ -95,7 +95,7 @@ impl Both {
         true
     }
 
-    // Makes room for one more timer, at the second attempt where the first is refused.
+    // Makes room for one more timer, at the second attempt if the first is refused.
     fn grow(&mut self) -> Result<(), AllocError>
         ensures room { OnOk result (1 ≤ self.new.room) }
     {

@@ -155,7 +155,7 @@ const CALLS: [(Ask, &str); 8] = [
     (Ask::AndUpsertWith, "OwnedKeyEntrySelector::and_upsert_with"),
 ];
 
-/// Nothing is answered and nothing inserted where makers decline and fail.
+/// Nothing is answered and nothing inserted when makers decline and fail.
 const NOTHING: &[Row] = &[
     (Ask::Decline, "Cache::optionally_get_with", "", None),
     (Ask::Fail, "Cache::try_get_with", "", None),

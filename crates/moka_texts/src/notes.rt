@@ -23,7 +23,7 @@ impl Words {
         Words { alloc, number, now }
     }
 
-    /// A word with the number. Where memory for it is refused, it is made again; an empty text if that is refused too.
+    /// A word with the number. If memory for it is refused, it is made again; an empty text if that is refused too.
     pub fn text(self, word: &str) -> String {
         for _ in 0..TRIES {
             if let Ok(text) = format!(in self.alloc; "{word} {}", self.number) {
@@ -38,7 +38,7 @@ impl Words {
         *text == self.text(word)
     }
 
-    /// Whether what was found is the text of this word, or nothing where no word is given.
+    /// Whether what was found is the text of this word, or nothing if no word is given.
     pub fn is_found(self, word: Option<&str>, found: Option<String>) -> bool {
         match (word, found) {
             (Some(word), Some(text)) => self.is(word, &text),

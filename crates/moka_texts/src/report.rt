@@ -93,7 +93,7 @@ pub enum Left {
 #[derive(Clone, Copy)]
 pub struct Refused {
     pub left: Left,
-    /// The step at which it was refused, where it has several.
+    /// The step at which it was refused, if it has several.
     pub place: &'static str,
     pub counted: Stats,
     pub predicates: u64,

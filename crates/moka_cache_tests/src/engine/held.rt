@@ -1,4 +1,4 @@
-//! What a cache holds: what leaves it is dropped, the key and the value, and a key is cloned only where a call needs
+//! What a cache holds: what leaves it is dropped, the key and the value, and a key is cloned only if a call needs
 //! the clone.
 use crate::engine::steps::{assert_right, settle};
 use crate::predicates::OneId;
@@ -186,7 +186,7 @@ fn check_ways(rt: &impl Abort, cache: &mut Held, outside: &Outside) {
     }
 }
 
-/// Whether a get finds the key, or `None` where it is refused.
+/// Whether a get finds the key, or `None` if it is refused.
 fn get(cache: &mut Held, key: &Unique, need_key: bool, now: Instant) -> Option<bool> {
     let test = Some(&mut NoTest);
     let clock = &mut FixedClock(now);

@@ -9,7 +9,7 @@ use crate::rules::{Question, Rule};
 use crate::weigher::NumberWeigher;
 use moka_parts::policy::EvictionPolicy;
 
-/// What a script sets before its first call; `None` where it has no such line.
+/// What a script sets before its first call; `None` if it has no such line.
 #[derive(Clone, Copy)]
 pub struct Settings {
     /// The first ticket.

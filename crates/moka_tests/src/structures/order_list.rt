@@ -1,4 +1,4 @@
-//! The list beside a plain vector of its members, also where its growths are refused.
+//! The list beside a plain vector of its members, also when its growths are refused.
 ghost use Rattle.std.specs.Prelude.{◌≤◌, IfSome, IsSome, OnOk, nat_eq};
 ghost use Rattle.std.specs.Map.{lookup};
 
@@ -69,7 +69,7 @@ fn change(
     Ok(list.unlink(slot) == number && taken == member)
 }
 
-// Makes room for one more value, at the second attempt where the first is refused.
+// Makes room for one more value, at the second attempt if the first is refused.
 fn grow(list: &mut OrderList<u64>) -> Result<(), AllocError>
     ensures { OnOk result (1 ≤ list.new.room) }
 {

@@ -1,4 +1,4 @@
-//! Items that are handed out and come back, also where growths are refused.
+//! Items that are handed out and come back, also when growths are refused.
 ghost use Rattle.std.specs.Prelude.{◌≡◌, ◌≤◌, ℕ, None, OnOk};
 ghost use Rattle.std.specs.FinMap as map;
 
@@ -6,7 +6,7 @@ use moka_structures::Outstanding;
 use std::alloc::AllocError;
 use std::test::Fail;
 
-// Makes room for two items, at the second attempt where the first is refused.
+// Makes room for two items, at the second attempt if the first is refused.
 fn grow(out: &mut Outstanding<u8>) -> Result<(), AllocError>
     ensures room { OnOk result (2 ≤ out.new.room) }
     ensures items { out.new.items ≡ out.old.items }

@@ -46,7 +46,7 @@ impl PlaceIndex {
         self.len() == 0
     }
 
-    /// Makes room for `additional` more places, and changes nothing where there is room. Where there is too little, the
+    /// Makes room for `additional` more places, and changes nothing if there is room. If there is too little, the
     /// places that fit are afterwards at least twice as many as before, or 2^34, so an index grows seldom as it fills.
     /// An error leaves the index as it was: there is no memory, or the index would have more than 2^34 places.
     #[inline(always)]
@@ -59,7 +59,7 @@ impl PlaceIndex {
         self.grow(additional)
     }
 
-    // The same where there is no room for so many.
+    // The same if there is no room for so many.
     #[cold]
     fn grow(&mut self, additional: usize) -> Result<(), AllocError>
     {
@@ -84,7 +84,7 @@ impl PlaceIndex {
         }
     }
 
-    /// Adds a new place under its hash, where there is room.
+    /// Adds a new place under its hash, if there is room.
     pub fn insert(&mut self, hash: u32, place: usize)
     {
         insert_entry(&mut self.groups, hash, place as u32);

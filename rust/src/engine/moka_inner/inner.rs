@@ -87,7 +87,7 @@ impl<K: Eq + Hash, V, S: BuildHasher> Inner<K, V, S> {
         })
     }
 
-    /// What always holds of the order of writing, where that is kept. It does nothing when it runs.
+    /// What always holds of the order of writing, if that is kept. It does nothing when it runs.
     pub fn invariant_holds(&self)
     {
         self.store.invariant_holds();
@@ -114,7 +114,7 @@ impl<K: Eq + Hash, V, S: BuildHasher> Inner<K, V, S> {
         self.store.find_by_key(key, hash)
     }
 
-    /// Makes room for one more record with its operation and its removal, and changes nothing where there is room.
+    /// Makes room for one more record with its operation and its removal, and changes nothing if there is room.
     #[inline(always)]
     pub fn reserve_record(&mut self) -> Result<(), InsertError>
     {
@@ -127,7 +127,7 @@ impl<K: Eq + Hash, V, S: BuildHasher> Inner<K, V, S> {
         self.reserve_operations(2)
     }
 
-    /// Makes room for one more operation, and changes nothing where there is room.
+    /// Makes room for one more operation, and changes nothing if there is room.
     #[inline(always)]
     pub fn reserve_operation(&mut self) -> Result<(), InsertError>
     {
@@ -137,7 +137,7 @@ impl<K: Eq + Hash, V, S: BuildHasher> Inner<K, V, S> {
         self.reserve_operations(1)
     }
 
-    // Makes room for so many more operations, where the tickets last for them.
+    // Makes room for so many more operations, if the tickets last for them.
     #[inline(always)]
     fn reserve_operations(&mut self, additional: usize) -> Result<(), InsertError>
     {
@@ -238,7 +238,7 @@ impl<K: Eq + Hash, V, S: BuildHasher> Inner<K, V, S> {
         self.store.touch(handle, read, expires, is_renewed);
     }
 
-    /// Queues a read, or drops it where the queue is full.
+    /// Queues a read, or drops it if the queue is full.
     #[inline(always)]
     pub fn queue_read(&mut self, place: usize, read: ReadOperation)
     {
@@ -248,7 +248,7 @@ impl<K: Eq + Hash, V, S: BuildHasher> Inner<K, V, S> {
         let _full = self.reads.try_push_back(QueuedRead::new(read, place));
     }
 
-    /// Applies all queued reads, and then all queued writes in order. Then the sketch comes on where it is due.
+    /// Applies all queued reads, and then all queued writes in order. Then the sketch comes on if it is due.
     #[inline(always)]
     pub fn apply_queues<L: Listener<K, V>>(
         &mut self,

@@ -32,7 +32,7 @@ pub enum Outcome {
 pub struct QueuedRead {
     pub outcome: Outcome,
     pub place: u32,
-    /// The record's number, and 0 where none was found.
+    /// The record's number, and 0 if none was found.
     pub number: u64,
     pub hash: u64,
 }

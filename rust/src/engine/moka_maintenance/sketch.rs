@@ -11,7 +11,7 @@ use crate::engine::moka_store::Store;
 use crate::support::hash::{BuildHasher, Hash};
 
 /// Makes the sketch's table under TinyLFU, once half of a capacity other than 0 is taken. It has about a word for each
-/// entry that finds room: with a weigher, as many as find room at the mean weight of today's. Where memory for so long
+/// entry that finds room: with a weigher, as many as find room at the mean weight of today's. If memory for so long
 /// a table is refused, it has 128 words.
 pub fn enable_frequency_sketch<K: Eq + Hash, V, S: BuildHasher>(
     store: &Store<K, V, S>,

@@ -21,7 +21,7 @@ pub use membership::Membership;
 /// row that was forgotten is given to a later one.
 pub struct RecordTable<K, V> {
     rows: Rows<K, V>,
-    // The cold part of the record at each place, with the weight of the membership there; anything where there is none.
+    // The cold part of the record at each place, with the weight of the membership there; anything if there is none.
     cold: Vec<Cold>,
     // How many rows fit with no memory, with their cold parts.
     fit: usize,
@@ -58,7 +58,7 @@ impl<K, V> RecordTable<K, V> {
         self.cold.len()
     }
 
-    /// Makes room for `additional` more rows, and changes nothing where there is room.
+    /// Makes room for `additional` more rows, and changes nothing if there is room.
     pub fn reserve(&mut self, additional: usize) -> Result<(), AllocError>
     {
         let rows = self.rows.len();

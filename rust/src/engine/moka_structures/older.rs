@@ -26,7 +26,7 @@ pub struct Older<T: Copy> {
 // Written out so that an owner's drop is one call.
 
 impl<T: Copy> Older<T> {
-    /// Nothing is out, or an error where there is no memory.
+    /// Nothing is out, or an error if there is no memory.
     pub fn new(alloc: Global) -> Result<Self, AllocError>
     {
         Ok(Older {
@@ -41,7 +41,7 @@ impl<T: Copy> Older<T> {
         self.table.len() + self.kept.len()
     }
 
-    /// Keeps room for `additional` more items, and changes nothing where there is room. An error takes neither items
+    /// Keeps room for `additional` more items, and changes nothing if there is room. An error takes neither items
     /// nor room away.
     #[inline(always)]
     pub fn reserve(&mut self, additional: usize) -> Result<(), AllocError>
@@ -52,7 +52,7 @@ impl<T: Copy> Older<T> {
         self.kept.reserve(additional)
     }
 
-    /// Hands an item out under a ticket above all that are out, where there is room.
+    /// Hands an item out under a ticket above all that are out, if there is room.
     pub fn hand_out(&mut self, ticket: u64, item: T)
     {
         if self.table.reserve(1).is_ok() {

@@ -65,7 +65,7 @@ pub struct OrderList<T: Copy> {
 // Written out so that an owner's drop is one call.
 
 impl<T: Copy> OrderList<T> {
-    /// An empty list, or an error where there is no memory for the sentinel, which holds `blank`.
+    /// An empty list, or an error if there is no memory for the sentinel, which holds `blank`.
     ///
     /// moka: `Deque::new`.
     pub fn new(alloc: Global, blank: T) -> Result<Self, AllocError>
@@ -98,7 +98,7 @@ impl<T: Copy> OrderList<T> {
         self.len == 0
     }
 
-    /// Makes room for `additional` more values, and changes nothing where there is room. An error leaves the list as it
+    /// Makes room for `additional` more values, and changes nothing if there is room. An error leaves the list as it
     /// was: there is no memory, or the list would be longer than its slots can tell.
     #[inline(always)]
     pub fn reserve(&mut self, additional: usize) -> Result<(), AllocError>
@@ -114,7 +114,7 @@ impl<T: Copy> OrderList<T> {
         self.nodes.reserve(more)
     }
 
-    /// Puts a value behind all others, where there is room. The answer is its slot, which is not 0, and which no
+    /// Puts a value behind all others, if there is room. The answer is its slot, which is not 0, and which no
     /// other value has while it is in.
     ///
     /// moka: `Deque::push_back`.

@@ -24,7 +24,7 @@ pub struct Outstanding<T: Copy> {
 // Written out so that an owner's drop is one call.
 
 impl<T: Copy> Outstanding<T> {
-    /// Nothing is out, or an error where there is no memory.
+    /// Nothing is out, or an error if there is no memory.
     pub fn new(alloc: Global) -> Result<Self, AllocError>
     {
         Ok(Outstanding {
@@ -48,14 +48,14 @@ impl<T: Copy> Outstanding<T> {
         self.len() == 0
     }
 
-    /// Keeps room for `additional` more items, and changes nothing where there is room. An error takes neither items
+    /// Keeps room for `additional` more items, and changes nothing if there is room. An error takes neither items
     /// nor room away.
     pub fn reserve(&mut self, additional: usize) -> Result<(), AllocError>
     {
         self.older.reserve(additional)
     }
 
-    /// Hands an item out under a ticket above all that are out, where there is room.
+    /// Hands an item out under a ticket above all that are out, if there is room.
     #[inline(always)]
     pub fn hand_out(&mut self, ticket: u64, item: T)
     {

@@ -22,7 +22,7 @@ pub struct TicketTable<T: Copy> {
 // Written out so that an owner's drop is one call.
 
 impl<T: Copy> TicketTable<T> {
-    /// Nothing is out, or an error where there is no memory.
+    /// Nothing is out, or an error if there is no memory.
     pub fn new(alloc: Global) -> Result<Self, AllocError>
     {
         Ok(TicketTable {
@@ -37,7 +37,7 @@ impl<T: Copy> TicketTable<T> {
         self.waiting.len()
     }
 
-    /// Makes room for `additional` more items, and changes nothing where there is room. An error takes neither items
+    /// Makes room for `additional` more items, and changes nothing if there is room. An error takes neither items
     /// nor room away.
     pub fn reserve(&mut self, additional: usize) -> Result<(), AllocError>
     {
@@ -48,7 +48,7 @@ impl<T: Copy> TicketTable<T> {
         self.waiting.reserve(additional)
     }
 
-    /// Hands an item out under a ticket above all that are out, where there is room.
+    /// Hands an item out under a ticket above all that are out, if there is room.
     pub fn hand_out(&mut self, ticket: u64, item: T)
     {
         let slot = self.order.push_back(ticket);

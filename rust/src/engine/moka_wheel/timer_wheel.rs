@@ -31,7 +31,7 @@ pub struct TimerWheel {
     buckets: Buckets,
     // How many timers there are.
     len: usize,
-    // The first free node, where there is one.
+    // The first free node, if there is one.
     free: u32,
 }
 
@@ -54,7 +54,7 @@ impl TimerWheel {
         self.len
     }
 
-    /// Makes room for `additional` more timers, and changes nothing where there is room. It refuses more than 32-bit
+    /// Makes room for `additional` more timers, and changes nothing if there is room. It refuses more than 32-bit
     /// slots can name, as it does for want of memory.
     pub fn reserve(&mut self, additional: usize) -> Result<(), AllocError>
     {
@@ -98,7 +98,7 @@ impl TimerWheel {
         number
     }
 
-    /// Takes a timer out whose moment is at or before `now`. The answer is None exactly where there is none.
+    /// Takes a timer out whose moment is at or before `now`. The answer is None exactly if there is none.
     ///
     /// `now` may be earlier than at the last call. Which of several timers comes first is open.
     pub fn advance(&mut self, now: u64) -> Option<Due>

@@ -11,7 +11,7 @@ use crate::support::test::test::Fail;
 
 mod plain_sketch;
 
-// Makes a table for a size, and tells whether it has the length, is fresh, and counts. Where memory for it is refused
+// Makes a table for a size, and tells whether it has the length, is fresh, and counts. If memory for it is refused
 // once, the sketch says so and has the shortest table.
 fn is_made(sketch: &mut FrequencySketch, size: u64, length: usize) -> bool {
     let is_refused = sketch.ensure_capacity(size).is_err();

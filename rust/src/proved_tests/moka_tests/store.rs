@@ -25,7 +25,7 @@ fn record(number: u64, value: u64) -> Record<u64, u64> {
     }
 }
 
-// Makes room for one more record, at the second attempt where the first is refused.
+// Makes room for one more record, at the second attempt if the first is refused.
 fn grow(table: &mut RecordTable<u64, u64>) -> Result<(), AllocError>
 {
     if table.reserve(1).is_ok() {
@@ -34,7 +34,7 @@ fn grow(table: &mut RecordTable<u64, u64>) -> Result<(), AllocError>
     table.reserve(1)
 }
 
-// Whether a record is found where further growths are refused.
+// Whether a record is found if further growths are refused.
 fn keeps_a_record(alloc: Global) -> Result<bool, AllocError> {
     let mut table = RecordTable::new(alloc);
     grow(&mut table)?;

@@ -23,7 +23,7 @@ pub fn start<C: Clock>(
     TimedCache::build(CacheConfig::default().time_to_idle(idle), alloc, clock)
 }
 
-/// Begins a session of a user, used at the clock's moment. One that the user has ends. Where the capacity is 0 none is
+/// Begins a session of a user, used at the clock's moment. One that the user has ends. If the capacity is 0 none is
 /// kept.
 ///
 /// # Errors

@@ -18,7 +18,7 @@ use crate::support::alloc::Global;
 use crate::support::hash::{BuildHasherDefault, FoldHasher};
 use crate::support::time::Duration;
 
-/// The first ticket where a script sets none.
+/// The first ticket if a script sets none.
 const FIRST_TICKET: u64 = 1;
 
 /// A cache that a script's calls are made on.

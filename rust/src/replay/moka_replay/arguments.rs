@@ -7,7 +7,7 @@ use crate::replay::moka_script::failure::Failure;
 /// The path of the script's file, if the arguments name one. The first argument is the program's name.
 ///
 /// # Errors
-/// `Usage` where there are more arguments.
+/// `Usage` if there are more arguments.
 pub fn script_path(arguments: &[String]) -> Result<Option<&str>, Failure>
 {
     match arguments {

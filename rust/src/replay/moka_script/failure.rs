@@ -12,7 +12,7 @@ use std::{fmt, io};
 /// The status of a replay that was made, each reply with its memory.
 pub const REPLAYED: u8 = 0;
 
-/// The status where the script or the arguments are faulty.
+/// The status if the script or the arguments are faulty.
 pub const FAULTY: u8 = 2;
 
 /// The status if memory, a read or a write was refused.
@@ -86,7 +86,7 @@ impl<T> From<AllocFailed<T>> for Failure {
     }
 }
 
-/// Writes a line, and answers the status; where the line is refused, that of a refusal.
+/// Writes a line, and answers the status; if the line is refused, that of a refusal.
 pub fn write_with_status<S: Sink, D: Display>(sink: &mut S, line: D, status: u8) -> u8
 {
     match sink.write_line(line) {

@@ -22,7 +22,7 @@ pub use settings::{KeeperTerms, Settings};
 pub struct Script {
     pub settings: Settings,
     pub rules: Vec<Rule>,
-    /// What the clock tells, one reading after the other; empty where the script sets no clock.
+    /// What the clock tells, one reading after the other; empty if the script sets no clock.
     pub clock: Vec<u64>,
     pub calls: Vec<ScriptCall>,
 }
@@ -162,7 +162,7 @@ fn parse_line(line: &[u8]) -> Option<ReadLine<'_>>
 /// Reads a script, shorter than 2^63 bytes as all that a `Vec` holds. The first faulty line is named.
 ///
 /// # Errors
-/// `BadLine` where a line is faulty, and `OutOfMemory` if memory is refused to a rule, a clock or a call in front of
+/// `BadLine` if a line is faulty, and `OutOfMemory` if memory is refused to a rule, a clock or a call in front of
 /// the first such line.
 pub fn parse(alloc: Global, text: &[u8]) -> Result<Script, Failure>
 {

@@ -9,7 +9,7 @@ pub struct Membership {
     pub counted: u32,
     /// Its slot in the access list.
     pub access: u32,
-    /// Its slot in the write list, where that list is kept.
+    /// Its slot in the write list, if that list is kept.
     pub written: Option<u32>,
 }
 

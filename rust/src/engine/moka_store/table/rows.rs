@@ -44,7 +44,7 @@ impl<K, V> Rows<K, V> {
         self.slots.capacity()
     }
 
-    /// Makes room for `additional` more rows, and changes nothing where there is room.
+    /// Makes room for `additional` more rows, and changes nothing if there is room.
     pub(crate) fn reserve(&mut self, additional: usize) -> Result<(), AllocError>
     {
         if self.slots.capacity() - self.len >= additional {

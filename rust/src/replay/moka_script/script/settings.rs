@@ -8,7 +8,7 @@ use crate::replay::moka_script::rules::{Question, Rule};
 use crate::replay::moka_script::weigher::NumberWeigher;
 use crate::engine::moka_parts::policy::EvictionPolicy;
 
-/// What a script sets before its first call; `None` where it has no such line.
+/// What a script sets before its first call; `None` if it has no such line.
 #[derive(Clone, Copy)]
 pub struct Settings {
     /// The first ticket.
