@@ -4,3 +4,4 @@ mod MadeAgain
 mod Twins
 mod Looking
 mod LooksAlike
+mod RunRoom

@@ -1,19 +1,20 @@
 -- Lists of look-ups of a cache, and the same of one that was made again of it.
-use Rattle.std.specs.Prelude.{◌≡◌, ℕ, ◌≤◌, Bool, List, [], ◌∷◌, Some, None, Err, ◌⊎◌, ⊤}
-use Rattle.std.specs.FinMap.{get}
+use Rattle.std.specs.Prelude.{◌≡◌, ℕ, ◌≤◌, Bool, false, List, [], ◌∷◌, Some, None, Err, ◌⊎◌, ⊤}
+use Rattle.std.specs.FinMap.{get, empty}
 use Rattle.std.specs.List.{AllByRecursion, AllZip}
 use Rattle.moka_parts.specs.declared.calls.Call.{Call}
 use Rattle.moka_parts.specs.declared.calls.Call.TheVariants as call
 use Rattle.moka_parts.specs.declared.calls.Reply.{Reply}
 use Rattle.moka_parts.specs.declared.calls.Reply.TheVariants as reply
+use Rattle.moka_parts.specs.declared.policy.Instant.{Instant}
 use Rattle.moka_parts.specs.declared.records.Record.{Record}
 use Rattle.moka_parts.specs.Copies.{ClonesAreEqual}
 use Rattle.moka_parts.specs.Laws.{IsNoEarlier, later_of, moment_in}
 use Rattle.moka_parts.specs.Runs.{Engine}
 use Rattle.moka_parts.specs.Settling.{IsValid}
-use Rattle.moka_parts.specs.State.{State, Meaning}
+use Rattle.moka_parts.specs.State.{State, Meaning, is_disabled}
 use Rattle.moka_engine.specs.declared.base_cache.restores.Restored.{Restored}
-use Rattle.moka_calls.specs.Synchronous.{Made}
+use Rattle.moka_calls.specs.Synchronous.{Made, Makes, Just, own_run}
 use Rattle.moka_cache.specs.Saved.{IsRoomyFor, TakesOnlyExpired}
 use Rattle.moka_restore_laws.specs.Again.{IsMadeAgain}
 
@@ -63,3 +64,10 @@ LooksAnswerAlike {K} {V} {X} {L} {P} {W} {C} S m is_key_clone is_value_clone =
     saved ≤ now → put ≤ now → AllZip LookAlike calls others → AreInTime now calls →
     Made m calls replies first clock after clock_after → Made m others answers second other other_after other_clock →
     AllByRecursion IsAnswered replies → AllByRecursion IsAnswered answers → answers ≡ replies
+
+-- a run that the cache asks for leaves room for all that it holds, if no predicate and no invalidation of all is left
+abbrev pub RunLeavesRoom : {K V X L P W C : Type 0} → (S : Type 0) → Meaning K V X L P W C (Unit {0}) → Type 0
+RunLeavesRoom {K} {V} {X} {L} {P} {W} {C} S m = (now : Instant) (more : Bool) (old new : Engine K V S X L P W)
+    (clock clock_after : C) → old.state.outstanding ≡ empty → is_disabled new.state.capacity ≡ false →
+    Makes m (Just (own_run now) (reply.Run more)) old clock new clock_after →
+    new.state.invalid_before ≡ None → new.state.predicates ≡ [] → IsRoomyFor m.weighs [] new.state

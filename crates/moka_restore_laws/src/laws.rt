@@ -5,7 +5,7 @@ ghost use Rattle.moka_calls.specs.Synchronous.{meaning_of};
 ghost use Rattle.moka_parts.specs.Hashing.{key_hash};
 ghost use Rattle.moka_restore_laws.specs.Again.{AnswersAlike, EmptyHasRoom, MadeAgainAnswersAlike};
 ghost use Rattle.moka_restore_laws.specs.Among.{RestoresAmongCalls};
-ghost use Rattle.moka_restore_laws.specs.Looks.{LooksAnswerAlike};
+ghost use Rattle.moka_restore_laws.specs.Looks.{LooksAnswerAlike, RunLeavesRoom};
 
 use moka_parts::closures::{PredicateFn, Weigher};
 use moka_parts::housekeeper::Clock;
@@ -39,8 +39,8 @@ pub fn made_again_answers_alike<
 /// maintenance that starts in either.
 ///
 /// Clones have to be equal, and none of the look-ups be refused memory. In the first too nothing but time may take an
-/// entry out (`IsRoomyFor`): it has room for what it holds, no predicates and no invalidation of all. Both have the
-/// same expiry, and if there is one, no entry was written after the moment of saving.
+/// entry out (`IsRoomyFor`): it has room for what it holds, as a run leaves it, such as `save` makes, no predicates and
+/// no invalidation of all. Both have the same expiry, and if there is one, no entry was written after that of saving.
 pub fn look_ups_answer_alike<
     K: Eq + Clone,
     V: Clone,
@@ -55,6 +55,7 @@ pub fn look_ups_answer_alike<
         (meaning_of K.eq L.tells P.says W.weighs C.reads X.created X.read X.updated) K.is_clone V.is_clone }
     ensures at_any_time { LooksAnswerAlike S
         (anytime (meaning_of K.eq L.tells P.says W.weighs C.reads X.created X.read X.updated)) K.is_clone V.is_clone }
+    ensures room { RunLeavesRoom S (meaning_of K.eq L.tells P.says W.weighs C.reads X.created X.read X.updated) }
 {}
 
 /// Calls with entries put back among them, by `restore` or `restore_entry`, in whatever order, are parts of one list,

@@ -7,22 +7,35 @@ use Rattle.moka_engine.specs.parts.Instant.{Instant}
 use Rattle.moka_engine.specs.parts.Record.{Record}
 use Rattle.moka_engine.specs.parts.Reply.{Reply}
 use Rattle.moka_engine.specs.parts.Reply.TheVariants as reply
-use Rattle.moka_engine.specs.Config.{Config}
+use Rattle.moka_engine.specs.Config.{Config, default_config}
 use Rattle.moka_engine.specs.Runs.{Engine}
-use Rattle.moka_engine.specs.State.{State, Meaning}
+use Rattle.moka_engine.specs.State.{State, Meaning, is_disabled}
 use Rattle.moka_engine.specs.declared.base_cache.restores.Restored.{Restored}
 use Rattle.moka_cache.specs.Saved.{AddsOnly, AreThere, IsOfItem, IsRestored, IsRoomyFor, PutsAllBack, TakesOnlyExpired, has_expired}
 use Rattle.moka_cache.specs.Synchronous.{Synchronous, Just, Made, Makes, own_run}
 use Rattle.moka_cache.specs.Unsent.{HidesNoMore}
 use Rattle.moka_restore_laws.specs.Again.{AnswerAlike}
 use Rattle.moka_restore_laws.specs.Looks.{AreInTime, IsAnswered, LookAlike}
-use Rattle.moka_uses.specs.Made.{IsNew}
+use Rattle.moka_uses.specs.Made.{IsNew, plain_meaning}
 
 -- the cache made a run of maintenance at the moment, and no other call
 abbrev pub Runs : {K V S X L P W C : Type 0} → Meaning K V X L P W C (Unit {0}) → Instant → Engine K V S X L P W → C →
     Engine K V S X L P W → C → Type 0
 Runs m now old clock new clock_after = (more : Bool) × Makes m (Just (own_run now) (reply.Run more)) old clock
     new clock_after
+
+-- what the parts of a cache of sessions mean, whose clock reads so
+abbrev pub sessions_meaning : {X L P W C : Type 0} → (C → Instant → C → Type 0) → Meaning ℕ ℕ X L P W C (Unit {0})
+sessions_meaning reads = plain_meaning (λ a b. a == b) reads
+
+-- the default configuration with this idle time
+abbrev pub idling : {X L W : Type 0} → ℕ → Config X L W
+idling idle = record default_config { time_to_idle = Some idle }
+
+-- this is so at the second moment that the clock tells
+abbrev pub AtSecond : {C : Type 0} → (C → Instant → C → Type 0) → C → (Instant → Type 0) → Type 0
+AtSecond {C} reads clock Is = (begun : Instant) × (ticked : C) × reads clock begun ticked
+    × (now : Instant) × (read : C) × reads ticked now read × Is now
 
 -- new sessions of this configuration were begun at the moment that the clock told, and those that were saved put back
 -- into them at the next; no other call
@@ -70,7 +83,7 @@ pub record EndsByIdling {X P W : Type 0} (idle : ℕ) (s : State ℕ ℕ X P W) 
   pub idles : s.settings.time_to_idle ≡ Some idle
   pub live : s.settings.time_to_live ≡ None
   pub expiry : s.settings.expiry ≡ None
-  pub unbounded : s.capacity ≡ None
+  pub enabled : is_disabled s.capacity ≡ false
   pub bound : s.invalid_before ≡ None
   pub predicates : s.predicates ≡ []
 

@@ -1,14 +1,12 @@
 //! Sessions that outlast a restart: they are saved when the program ends, and put back when it starts again.
-ghost use Rattle.std.specs.Prelude.{◌≡◌, ◌==◌, ◌≤◌, false, length, IfOk, List, None, Some};
+ghost use Rattle.std.specs.Prelude.{◌≡◌, ◌≤◌, false, length, IfOk, List, None, Some};
 ghost use Rattle.std.specs.Duration.{as_nanos};
 ghost use Rattle.moka_engine.specs.parts.Instant.{Instant};
-ghost use Rattle.moka_engine.specs.Config.{default_config};
 ghost use Rattle.moka_engine.specs.Snapshots.{scene_of};
 ghost use Rattle.moka_engine.specs.declared.base_cache.restores.Restored.{Restored};
 ghost use Rattle.moka_cache.specs.Saved.{HasOnlyMembers, AreSaved};
 ghost use Rattle.moka_cache.specs.Laws.{anytime};
-ghost use Rattle.moka_uses.specs.Made.{plain_meaning};
-ghost use Rattle.moka_timed_uses.specs.Restarted.{AreAmong, AreBack, AreBegunAgain, AreHandedOver, ArePutBack, AreUsedAlike, Runs};
+ghost use Rattle.moka_timed_uses.specs.Restarted.{AreAmong, AreBack, AreBegunAgain, AreHandedOver, ArePutBack, AreUsedAlike, AtSecond, Runs, idling, sessions_meaning};
 
 use crate::sessions::Sessions;
 use moka_engine::{
@@ -33,7 +31,7 @@ pub fn save<C: Clock>(
     ensures saved { (now : Instant) × (read : C) × C.reads sessions.old.clock now read
         × IfOk result (λ saved. AreSaved (λ _ _ _ answer. answer ≡ false) (λ a b. b ≡ a) (λ a b. b ≡ a)
         (scene_of sessions.new.cache.engine.state now.0) sessions.new.cache.engine.state.access saved.items)
-        × Runs (plain_meaning (λ a b. a == b) C.reads) now sessions.old.cache.engine read
+        × Runs (sessions_meaning C.reads) now sessions.old.cache.engine read
         sessions.new.cache.engine sessions.new.clock }
 {
     sessions.save(alloc)
@@ -52,14 +50,12 @@ pub fn start_again<C: Clock + Drop>(
     saved: Vec<Restored<u64, u64>>,
 ) -> Result<Sessions<C>, OutOfMemory>
     ensures idle { IfOk result (λ sessions. sessions.cache.engine.state.settings.time_to_idle ≡ Some (as_nanos idle)) }
-    ensures back { IfOk result (λ sessions. (begun : Instant) × (ticked : C) × C.reads clock begun ticked
-        × (now : Instant) × (read : C) × C.reads ticked now read
-        × AreBack sessions.cache.engine.state saved.items now.0
-        × ArePutBack (λ _ _ _ weight. weight ≡ 1) saved.items now.0 (as_nanos idle) sessions.cache.engine.state) }
+    ensures back { IfOk result (λ sessions. AtSecond C.reads clock
+        (λ now. AreBack sessions.cache.engine.state saved.items now.0
+        × ArePutBack (λ _ _ _ weight. weight ≡ 1) saved.items now.0 (as_nanos idle) sessions.cache.engine.state)) }
     ensures among { IfOk result (λ sessions. AreAmong sessions.cache.engine.state saved.items) }
     ensures unbounded { IfOk result (λ sessions. sessions.cache.engine.state.capacity ≡ None) }
-    ensures made { IfOk result (λ sessions. AreBegunAgain (plain_meaning (λ a b. a == b) C.reads)
-        (record default_config { time_to_idle = Some (as_nanos idle) })
+    ensures made { IfOk result (λ sessions. AreBegunAgain (sessions_meaning C.reads) (idling (as_nanos idle))
         clock saved.items sessions.cache sessions.clock) }
 {
     let config = CacheConfig::default().time_to_idle(idle);
@@ -84,12 +80,11 @@ pub fn start_again_within<C: Clock + Drop>(
 ) -> Result<Sessions<C>, OutOfMemory>
     ensures idle { IfOk result (λ sessions. sessions.cache.engine.state.settings.time_to_idle ≡ Some (as_nanos idle)) }
     ensures bound { IfOk result (λ sessions. sessions.cache.engine.state.capacity ≡ Some capacity) }
-    ensures back { IfOk result (λ sessions. (begun : Instant) × (ticked : C) × C.reads clock begun ticked
-        × (now : Instant) × (read : C) × C.reads ticked now read
-        × (1 ≤ capacity → length saved.items ≤ capacity → AreBack sessions.cache.engine.state saved.items now.0)) }
+    ensures back { IfOk result (λ sessions. AtSecond C.reads clock (λ now. 1 ≤ capacity
+        → length saved.items ≤ capacity → AreBack sessions.cache.engine.state saved.items now.0)) }
     ensures among { IfOk result (λ sessions. AreAmong sessions.cache.engine.state saved.items) }
-    ensures made { IfOk result (λ sessions. AreBegunAgain (plain_meaning (λ a b. a == b) C.reads)
-        (record default_config { time_to_idle = Some (as_nanos idle); max_capacity = Some capacity })
+    ensures made { IfOk result (λ sessions. AreBegunAgain (sessions_meaning C.reads)
+        (record (idling (as_nanos idle)) { max_capacity = Some capacity })
         clock saved.items sessions.cache sessions.clock) }
 {
     made_again_answers_alike::<u64, u64, NoExpiry, NoPredicate, NoWeigher>();
@@ -116,18 +111,15 @@ pub fn hand_over<C: Clock, D: Clock + Drop>(
     clock: D,
 ) -> Result<Sessions<D>, OutOfMemory>
     ensures idle { IfOk result (λ again. again.cache.engine.state.settings.time_to_idle ≡ Some (as_nanos idle)) }
-    ensures begun { IfOk result (λ again. (saved : List (Restored _ _))
-        × AreBegunAgain (plain_meaning (λ a b. a == b) D.reads)
-        (record default_config { time_to_idle = Some (as_nanos idle) }) clock saved again.cache again.clock) }
+    ensures begun { IfOk result (λ again. (saved : List (Restored _ _)) × AreBegunAgain (sessions_meaning D.reads)
+        (idling (as_nanos idle)) clock saved again.cache again.clock) }
     ensures handed_over { (saved : Instant) × (read : C) × C.reads sessions.old.clock saved read
-        × Runs (plain_meaning (λ a b. a == b) C.reads) saved sessions.old.cache.engine read
+        × Runs (sessions_meaning C.reads) saved sessions.old.cache.engine read
         sessions.new.cache.engine sessions.new.clock
-        × IfOk result (λ again. (begun : Instant) × (ticked : D) × D.reads clock begun ticked
-        × (put : Instant) × (read_again : D) × D.reads ticked put read_again
-        × AreHandedOver (λ _ _ _ answer. answer ≡ false)
+        × IfOk result (λ again. AtSecond D.reads clock (λ put. AreHandedOver (λ _ _ _ answer. answer ≡ false)
         (as_nanos idle) saved.0 put.0 sessions.new.cache.engine.state again.cache.engine.state
-        × AreUsedAlike (anytime (plain_meaning (λ a b. a == b) C.reads))
-        (as_nanos idle) saved.0 put.0 sessions.new.cache.engine again.cache.engine) }
+        × AreUsedAlike (anytime (sessions_meaning C.reads))
+        (as_nanos idle) saved.0 put.0 sessions.new.cache.engine again.cache.engine)) }
 {
     made_again_answers_alike::<u64, u64, NoExpiry, NoPredicate, NoWeigher>();
     look_ups_answer_alike::<
@@ -140,6 +132,7 @@ pub fn hand_over<C: Clock, D: Clock + Drop>(
         NoWeigher,
         C,
     >();
+    sessions.cache.invariant_holds();
     let saved = save(alloc, sessions)?;
     sessions.cache.engine().invariant_holds();
     let again = start_again(alloc, idle, clock, saved)?;

@@ -44,7 +44,18 @@ impl<
         SegmentedCache { router, segments }
     }
 
-    /// The router and the segments, so that each segment can have a lock of its own.
+    /// The router and the segments, so that each segment can have a lock of its own, or make a call that this cache has
+    /// none of, as those of entries, for many keys, or by a test of the key:
+    ///
+    /// ```text
+    /// let (router, mut segments) = cache.into_parts();
+    /// let own = router.segment_of(&key);
+    /// let entry = segments[own].entry(key);
+    /// let found = entry.or_insert(value, now, &mut clock)?;
+    /// let cache = SegmentedCache::from_parts(router, segments);
+    /// ```
+    ///
+    /// Each key is to stay in the segment that the router names, or it is not found.
     pub fn into_parts(self) -> (Router<S>, Vec<Cache<K, V, X, L, P, W, S>>)
     {
         let SegmentedCache { router, segments } = self;

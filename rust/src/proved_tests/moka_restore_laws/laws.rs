@@ -32,8 +32,8 @@ pub fn made_again_answers_alike<
 /// maintenance that starts in either.
 ///
 /// Clones have to be equal, and none of the look-ups be refused memory. In the first too nothing but time may take an
-/// entry out (`IsRoomyFor`): it has room for what it holds, no predicates and no invalidation of all. Both have the
-/// same expiry, and if there is one, no entry was written after the moment of saving.
+/// entry out (`IsRoomyFor`): it has room for what it holds, as a run leaves it, such as `save` makes, no predicates and
+/// no invalidation of all. Both have the same expiry, and if there is one, no entry was written after that of saving.
 pub fn look_ups_answer_alike<
     K: Eq + Clone,
     V: Clone,

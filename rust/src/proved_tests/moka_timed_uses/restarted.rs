@@ -94,6 +94,7 @@ pub fn hand_over<C: Clock, D: Clock>(
         NoWeigher,
         C,
     >();
+    sessions.cache.invariant_holds();
     let saved = save(alloc, sessions)?;
     sessions.cache.engine().invariant_holds();
     let again = start_again(alloc, idle, clock, saved)?;

@@ -37,7 +37,7 @@ returns-in-Ok g c =
     } in
     record {
       idle = ap (λ s. s.time_to_idle) c.restore.ensures.hides.settings ∙ idles;
-      back = (new.0, c.in_ok-sessions.sessions.clock, new.1, now, read, reads, all_back (λ _ _ _ weight. weight ≡ 1) back.state c.args.saved.items now.0 (as_nanos c.args.idle) made, made);
+      back = (new.0, c.in_ok-sessions.sessions.clock, new.1, now, read, reads, (all_back (λ _ _ _ weight. weight ≡ 1) back.state c.args.saved.items now.0 (as_nanos c.args.idle) made, made));
       among = among_all begun.state back.state c.args.saved.items none c.restore.ensures.adds;
       unbounded = same_capacity (plain_meaning (λ a b. a == b) g.C.Clock.reads) _ now c.args.saved.items begun read back c.restore.new.self.clock put ∙ capacity;
       made = (c.in_ok-sessions.sessions.cache, c.in_ok-sessions.sessions.clock, new, now, read, reads, (_, put));
