@@ -9,6 +9,7 @@ use Rattle.moka_parts.specs.declared.calls.Call.{Call}
 use Rattle.moka_parts.specs.declared.calls.Call.TheVariants as call
 use Rattle.moka_parts.specs.declared.calls.Reply.{Reply}
 use Rattle.moka_parts.specs.declared.calls.Reply.TheVariants as reply
+use Rattle.moka_parts.specs.Calls.{no_events}
 use Rattle.moka_parts.specs.Records.{Notice}
 use Rattle.moka_parts.specs.State.{State, Meaning, Events}
 use Rattle.moka_parts.specs.Maintenance.{Terms, Course}
@@ -41,6 +42,24 @@ module _ {K V S X L P W C : Type 0} (m : Meaning K V X L P W C (Unit {0})) where
   -- no call was made
   pub made_nothing : (c : Engine K V S X L P W) (clock : C) → Made m [] [] c clock c clock
   made_nothing c clock = record { steps = []; is_run = no_calls m (PromisedRun m.says m.read) c clock tt; listed = refl; in_order = tt }
+
+  -- nor if nothing befell the cache
+  pub made_none : (old new : Engine K V S X L P W) (clock : C) → new.state ≡ old.state → Befalls m.tells no_events old new → Made m [] [] old clock new clock
+  made_none old new clock same befalls = record {
+    steps = [];
+    is_run = record {
+      calls_made = refl;
+      replies_given = refl;
+      are_steps = tt;
+      ends = befalls.kept ∙ ap (λ s. record old { state = s; listener = new.listener; write_list = new.write_list; passes = new.passes; room = new.room }) same
+          ∙ ap (λ p. record old { listener = new.listener; write_list = new.write_list; passes = p; room = new.room }) befalls.passes;
+      heard = befalls.heard;
+      read = refl;
+      given = refl;
+    };
+    listed = befalls.listed refl;
+    in_order = tt;
+  }
 
   -- one that asks for no identifiers
   pub made_one : (old new : Engine K V S X L P W) (clock clock_after : C) (c : Call K V P) (r : Reply K V P) (e : Events K V) → CallStep m (ListedRun m.says m.read old.write_list new.write_list) old.state c r e new.state → Befalls m.tells e old new → Leads m.observes clock e.readings clock_after → e.ids ≡ [] → IsSentInOrder old.state c

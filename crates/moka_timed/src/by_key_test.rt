@@ -1,5 +1,5 @@
 //! Look-ups and removals by a test of the key in place of a key.
-ghost use Rattle.std.specs.Prelude.{◌≡◌, true, Option, Some, None, Result, IfOk, IfSome, OnErr, is_some, option_map};
+ghost use Rattle.std.specs.Prelude.{◌≡◌, [], true, Option, Some, None, Result, Ok, IfOk, IfSome, OnErr, is_some, option_map};
 ghost use Rattle.moka_parts.specs.Calls.{ContainsStep};
 ghost use Rattle.moka_parts.specs.Copies.{IsCopiedAnswer};
 ghost use Rattle.moka_parts.specs.KeyTests.{ContainsByStep, record_by};
@@ -10,7 +10,7 @@ ghost use Rattle.moka_parts.specs.Counters.{after_look_up};
 ghost use Rattle.moka_parts.specs.Hashing.{key_hash};
 ghost use Rattle.moka_timed.specs.Moments.{AtItsMoment, AtItsOnlyMoment};
 ghost use Rattle.moka_calls.specs.Given.{Sees};
-ghost use Rattle.moka_calls.specs.Synchronous.{GetsValue, Makes, RemovesEntry, hears_clones, invalidated, meaning_of, removed, taken_out};
+ghost use Rattle.moka_calls.specs.Synchronous.{GetsValue, Made, Makes, RemovesEntry, hears_clones, invalidated, meaning_of, removed, taken_out};
 
 use crate::cache::TimedCache;
 use moka_cache::error::NotTold;
@@ -52,7 +52,8 @@ impl<
         self.cache.contains_key_by(test, hash, now)
     }
 
-    /// As `get` of the key that passes. `hash` is that of the keys that do, by the cache's hasher.
+    /// As `get` of the key that passes, or, if no key of the cache does, of any other that is not there. `hash` is that
+    /// of the keys that pass, by the cache's hasher.
     ///
     /// # Errors
     /// As `get`.
@@ -71,17 +72,25 @@ impl<
             × IfOk result (λ found. ContainsByStep P.says (T.passes test.now) old.engine.state now.0 (is_some found))
             × ((key : K) → T.passes test.now key ≡ true
             → IfOk result (Sees K.eq P.says V.is_clone old.engine.state key now.0))) }
+        ensures missed { record_by (T.passes test.now) self.old.cache.engine.state.records ≡ None → (key : K)
+            → record_of_key K.eq self.old.cache.engine.state.records key ≡ None
+            → AtItsMoment C.reads self.old self.new (λ now old clock new clock_after.
+            (own : Result (Option V) OutOfMemory) × IsCopiedAnswer V.is_clone own result
+            × Makes (meaning_of K.eq L.tells P.says W.weighs C.reads X.created X.read X.updated)
+            (GetsValue key hash now own) old.engine clock new.engine clock_after) }
         ensures value { IfOk result (λ found. IfSome found (λ v. (r : Record K V)
             × (record_by (T.passes test.now) self.old.cache.engine.state.records ≡ Some r)
             × V.is_clone r.value v)) }
         ensures unchanged { OnErr result (self.new.cache.engine.state ≡ self.old.cache.engine.state) }
+        ensures hasher { self.new.cache.engine.hasher ≡ self.old.cache.engine.hasher }
         ensures counted { self.new.cache.stats ≡ after_look_up result self.old.cache.stats }
     {
         let now = self.clock.now();
         self.cache.get_by(test, hash, now, &mut self.clock)
     }
 
-    /// As `remove` of the key that passes. `hash` is that of the keys that do, by the cache's hasher.
+    /// As `remove` of the key that passes; if no key of the cache does, nothing changes. `hash` is that of the keys that
+    /// pass, by the cache's hasher.
     ///
     /// # Errors
     /// As `remove`.
@@ -97,17 +106,23 @@ impl<
             × (result ≡ removed taken)
             × Makes (meaning_of K.eq (hears_clones K.is_clone V.is_clone L.tells) P.says W.weighs C.reads
             X.created X.read X.updated) (RemovesEntry key hash now taken) old.engine clock new.engine clock_after) }
+        ensures none { record_by (T.passes test.now) self.old.cache.engine.state.records ≡ None
+            → AtItsMoment C.reads self.old self.new (λ now old clock new clock_after. (result ≡ Ok None)
+            × Made (meaning_of K.eq L.tells P.says W.weighs C.reads X.created X.read X.updated) [] []
+            old.engine clock new.engine clock_after) }
         ensures gone { (key : K) → T.passes test.now key ≡ true
             → record_of_key K.eq self.new.cache.engine.state.records key ≡ None }
         ensures value { (key : K) → T.passes test.now key ≡ true → taken_out result
             ≡ option_map (λ r. r.value) (record_of_key K.eq self.old.cache.engine.state.records key) }
+        ensures hasher { self.new.cache.engine.hasher ≡ self.old.cache.engine.hasher }
         ensures counted { self.new.cache.stats ≡ self.old.cache.stats }
     {
         let now = self.clock.now();
         self.cache.remove_by(test, hash, now, &mut self.clock)
     }
 
-    /// As `invalidate` of the key that passes. `hash` is that of the keys that do, by the cache's hasher.
+    /// As `invalidate` of the key that passes; if no key of the cache does, nothing changes. `hash` is that of the keys
+    /// that pass, by the cache's hasher.
     ///
     /// # Errors
     /// As `invalidate`.
@@ -123,8 +138,13 @@ impl<
             × (result ≡ invalidated taken)
             × Makes (meaning_of K.eq (hears_clones K.is_clone V.is_clone L.tells) P.says W.weighs C.reads
             X.created X.read X.updated) (RemovesEntry key hash now taken) old.engine clock new.engine clock_after) }
+        ensures none { record_by (T.passes test.now) self.old.cache.engine.state.records ≡ None
+            → AtItsMoment C.reads self.old self.new (λ now old clock new clock_after. (result ≡ Ok tt)
+            × Made (meaning_of K.eq L.tells P.says W.weighs C.reads X.created X.read X.updated) [] []
+            old.engine clock new.engine clock_after) }
         ensures gone { (key : K) → T.passes test.now key ≡ true
             → record_of_key K.eq self.new.cache.engine.state.records key ≡ None }
+        ensures hasher { self.new.cache.engine.hasher ≡ self.old.cache.engine.hasher }
         ensures counted { self.new.cache.stats ≡ self.old.cache.stats }
     {
         let now = self.clock.now();

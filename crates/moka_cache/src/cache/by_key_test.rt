@@ -1,5 +1,5 @@
 //! Look-ups and removals by a test of the key in place of a key.
-ghost use Rattle.std.specs.Prelude.{◌≡◌, true, Option, Some, None, Result, IfOk, IfSome, OnErr, is_some, option_map};
+ghost use Rattle.std.specs.Prelude.{◌≡◌, [], true, Option, Some, None, Result, Ok, IfOk, IfSome, OnErr, is_some, option_map};
 ghost use Rattle.moka_parts.specs.Calls.{ContainsStep};
 ghost use Rattle.moka_parts.specs.Copies.{IsCopiedAnswer};
 ghost use Rattle.moka_parts.specs.KeyTests.{ContainsByStep, record_by};
@@ -9,7 +9,7 @@ ghost use Rattle.moka_parts.specs.declared.records.Record.{Record};
 ghost use Rattle.moka_parts.specs.Counters.{after_look_up};
 ghost use Rattle.moka_parts.specs.Hashing.{key_hash};
 ghost use Rattle.moka_calls.specs.Given.{Sees};
-ghost use Rattle.moka_calls.specs.Synchronous.{GetsValue, Makes, RemovesEntry, hears_clones, invalidated, meaning_of, removed, taken_out};
+ghost use Rattle.moka_calls.specs.Synchronous.{GetsValue, Made, Makes, RemovesEntry, hears_clones, invalidated, meaning_of, removed, taken_out};
 
 use super::{Cache, invalidated, removed, value_of};
 use moka_calls::error::NotTold;
@@ -49,7 +49,8 @@ impl<
         self.engine.contains_by(test, hash, now)
     }
 
-    /// As `get` of the key that passes. `hash` is that of the keys that do, by the cache's hasher.
+    /// As `get` of the key that passes, or, if no key of the cache does, of any other that is not there. `hash` is that
+    /// of the keys that pass, by the cache's hasher.
     ///
     /// # Errors
     /// As `get`.
@@ -70,6 +71,11 @@ impl<
             × IsCopiedAnswer V.is_clone own result
             × Makes (meaning_of K.eq L.tells P.says W.weighs C.reads X.created X.read X.updated)
             (GetsValue key hash now own) self.old.engine clock.old self.new.engine clock.new }
+        ensures missed { record_by (T.passes test.now) self.old.engine.state.records ≡ None → (key : K)
+            → record_of_key K.eq self.old.engine.state.records key ≡ None → (own : Result (Option V) OutOfMemory)
+            × IsCopiedAnswer V.is_clone own result
+            × Makes (meaning_of K.eq L.tells P.says W.weighs C.reads X.created X.read X.updated)
+            (GetsValue key hash now own) self.old.engine clock.old self.new.engine clock.new }
         ensures value { IfOk result (λ found. IfSome found (λ v. (r : Record K V)
             × (record_by (T.passes test.now) self.old.engine.state.records ≡ Some r) × V.is_clone r.value v)) }
         ensures sees { (key : K) → T.passes test.now key ≡ true
@@ -80,6 +86,7 @@ impl<
             → ContainsStep P.says K.eq self.old.engine.state key now.0 true
             → IfOk result (λ found. is_some found ≡ true) }
         ensures unchanged { OnErr result ((self.new.engine.state ≡ self.old.engine.state) × (clock.new ≡ clock.old)) }
+        ensures hasher { self.new.engine.hasher ≡ self.old.engine.hasher }
         ensures counted { self.new.stats ≡ after_look_up result self.old.stats }
     {
         self.engine.invariant_holds();
@@ -89,7 +96,8 @@ impl<
         found
     }
 
-    /// As `remove` of the key that passes. `hash` is that of the keys that do, by the cache's hasher.
+    /// As `remove` of the key that passes; if no key of the cache does, nothing changes. `hash` is that of the keys that
+    /// pass, by the cache's hasher.
     ///
     /// # Errors
     /// As `remove`.
@@ -111,16 +119,21 @@ impl<
             × Makes (meaning_of K.eq (hears_clones K.is_clone V.is_clone L.tells) P.says W.weighs C.reads
             X.created X.read X.updated)
             (RemovesEntry key hash now taken) self.old.engine clock.old self.new.engine clock.new }
+        ensures none { record_by (T.passes test.now) self.old.engine.state.records ≡ None → (result ≡ Ok None)
+            × Made (meaning_of K.eq L.tells P.says W.weighs C.reads X.created X.read X.updated) [] []
+            self.old.engine clock.old self.new.engine clock.new }
         ensures gone { (key : K) → T.passes test.now key ≡ true
             → record_of_key K.eq self.new.engine.state.records key ≡ None }
         ensures value { (key : K) → T.passes test.now key ≡ true → taken_out result
             ≡ option_map (λ r. r.value) (record_of_key K.eq self.old.engine.state.records key) }
+        ensures hasher { self.new.engine.hasher ≡ self.old.engine.hasher }
         ensures counted { self.new.stats ≡ self.old.stats }
     {
         removed(self.take_by(test, hash, now, clock))
     }
 
-    /// As `invalidate` of the key that passes. `hash` is that of the keys that do, by the cache's hasher.
+    /// As `invalidate` of the key that passes; if no key of the cache does, nothing changes. `hash` is that of the keys
+    /// that pass, by the cache's hasher.
     ///
     /// # Errors
     /// As `invalidate`.
@@ -142,8 +155,12 @@ impl<
             × Makes (meaning_of K.eq (hears_clones K.is_clone V.is_clone L.tells) P.says W.weighs C.reads
             X.created X.read X.updated)
             (RemovesEntry key hash now taken) self.old.engine clock.old self.new.engine clock.new }
+        ensures none { record_by (T.passes test.now) self.old.engine.state.records ≡ None → (result ≡ Ok tt)
+            × Made (meaning_of K.eq L.tells P.says W.weighs C.reads X.created X.read X.updated) [] []
+            self.old.engine clock.old self.new.engine clock.new }
         ensures gone { (key : K) → T.passes test.now key ≡ true
             → record_of_key K.eq self.new.engine.state.records key ≡ None }
+        ensures hasher { self.new.engine.hasher ≡ self.old.engine.hasher }
         ensures counted { self.new.stats ≡ self.old.stats }
     {
         invalidated(self.take_by(test, hash, now, clock))
@@ -167,10 +184,14 @@ impl<
             → Makes (meaning_of K.eq (hears_clones K.is_clone V.is_clone L.tells) P.says W.weighs C.reads
             X.created X.read X.updated)
             (RemovesEntry key hash now result) self.old.engine clock.old self.new.engine clock.new }
+        ensures none { record_by (T.passes test.now) self.old.engine.state.records ≡ None → (result ≡ None)
+            × Made (meaning_of K.eq L.tells P.says W.weighs C.reads X.created X.read X.updated) [] []
+            self.old.engine clock.old self.new.engine clock.new }
         ensures gone { (key : K) → T.passes test.now key ≡ true
             → record_of_key K.eq self.new.engine.state.records key ≡ None }
         ensures value { (key : K) → T.passes test.now key ≡ true → option_map (λ t. t.0) result
             ≡ option_map (λ r. r.value) (record_of_key K.eq self.old.engine.state.records key) }
+        ensures hasher { self.new.engine.hasher ≡ self.old.engine.hasher }
         ensures counted { self.new.stats ≡ self.old.stats }
     {
         self.engine.invariant_holds();

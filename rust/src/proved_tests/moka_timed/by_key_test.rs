@@ -35,7 +35,8 @@ impl<
         self.cache.contains_key_by(test, hash, now)
     }
 
-    /// As `get` of the key that passes. `hash` is that of the keys that do, by the cache's hasher.
+    /// As `get` of the key that passes, or, if no key of the cache does, of any other that is not there. `hash` is that
+    /// of the keys that pass, by the cache's hasher.
     ///
     /// # Errors
     /// As `get`.
@@ -48,7 +49,8 @@ impl<
         self.cache.get_by(test, hash, now, &mut self.clock)
     }
 
-    /// As `remove` of the key that passes. `hash` is that of the keys that do, by the cache's hasher.
+    /// As `remove` of the key that passes; if no key of the cache does, nothing changes. `hash` is that of the keys that
+    /// pass, by the cache's hasher.
     ///
     /// # Errors
     /// As `remove`.
@@ -61,7 +63,8 @@ impl<
         self.cache.remove_by(test, hash, now, &mut self.clock)
     }
 
-    /// As `invalidate` of the key that passes. `hash` is that of the keys that do, by the cache's hasher.
+    /// As `invalidate` of the key that passes; if no key of the cache does, nothing changes. `hash` is that of the keys
+    /// that pass, by the cache's hasher.
     ///
     /// # Errors
     /// As `invalidate`.

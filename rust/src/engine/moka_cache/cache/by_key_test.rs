@@ -34,7 +34,8 @@ impl<
         self.engine.contains_by(test, hash, now)
     }
 
-    /// As `get` of the key that passes. `hash` is that of the keys that do, by the cache's hasher.
+    /// As `get` of the key that passes, or, if no key of the cache does, of any other that is not there. `hash` is that
+    /// of the keys that pass, by the cache's hasher.
     ///
     /// # Errors
     /// As `get`.
@@ -56,7 +57,8 @@ impl<
         found
     }
 
-    /// As `remove` of the key that passes. `hash` is that of the keys that do, by the cache's hasher.
+    /// As `remove` of the key that passes; if no key of the cache does, nothing changes. `hash` is that of the keys that
+    /// pass, by the cache's hasher.
     ///
     /// # Errors
     /// As `remove`.
@@ -74,7 +76,8 @@ impl<
         removed(self.take_by(test, hash, now, clock))
     }
 
-    /// As `invalidate` of the key that passes. `hash` is that of the keys that do, by the cache's hasher.
+    /// As `invalidate` of the key that passes; if no key of the cache does, nothing changes. `hash` is that of the keys
+    /// that pass, by the cache's hasher.
     ///
     /// # Errors
     /// As `invalidate`.

@@ -10,7 +10,7 @@ use Rattle.moka_calls.specs.Synchronous.{value_found}
 use Rattle.moka_laws.proofs.Alike.{gets_alike, listed_run_alike}
 use Rattle.moka_cache.proofs.Waiting.{none_of_key}
 use Rattle.moka_cache.proofs.Asking.{got, value_copied, handed_out, seen_found, unchanged_when_refused}
-use Rattle.moka_cache.proofs.ByTest.{got_as_key, none_passes}
+use Rattle.moka_cache.proofs.ByTest.{got_as_key, got_none, none_passes}
 use Rattle.moka_cache.proofs.cache.Cache.get_by.Goals as goal
 
 pub invariant_of-self : goal.invariant_of-self
@@ -24,6 +24,12 @@ returns-clause-made g c =
     let gets = c.get_by-entry.ensures in
     let as_key = got_as_key g.K.PartialEq.eq (g.T.KeyTest.passes c.args.test.now) (g.met.T.KeyTest.one_key c.args.test.now) c.self.inside.engine.state g.P.PredicateFn.says g.X.Expiry.read (ListedRun g.P.PredicateFn.says g.X.Expiry.read c.self.inside.engine.write_list c.get_by-entry.new.self.write_list) c.args.hash c.args.now.0 gets.0 gets.1.0 c.get_by-entry.new.self.state gets.1.1 in
     rw (← c.self.view_is, c.value_of-found.ensures) (λ key passing. (value_found gets.0, value_copied g.K.Clone.is_clone g.V.Clone.is_clone gets.0 c.get_by-entry.result gets.2, got _ key c.args.hash c.args.now c.self.inside.engine c.get_by-entry.new.self c.args.clock.now c.get_by-entry.new.clock gets.0 gets.1.0 (as_key key passing) gets.1.2 gets.1.3))
+
+pub returns-clause-missed : goal.returns-clause-missed
+returns-clause-missed g c =
+    let gets = c.get_by-entry.ensures in
+    let as_none = got_none g.K.PartialEq.eq (g.T.KeyTest.passes c.args.test.now) (g.met.T.KeyTest.one_key c.args.test.now) c.self.inside.engine.state g.P.PredicateFn.says g.X.Expiry.read (ListedRun g.P.PredicateFn.says g.X.Expiry.read c.self.inside.engine.write_list c.get_by-entry.new.self.write_list) c.args.hash c.args.now.0 gets.0 gets.1.0 c.get_by-entry.new.self.state gets.1.1 in
+    rw (← c.self.view_is, c.value_of-found.ensures) (λ none key absent. (value_found gets.0, value_copied g.K.Clone.is_clone g.V.Clone.is_clone gets.0 c.get_by-entry.result gets.2, got _ key c.args.hash c.args.now c.self.inside.engine c.get_by-entry.new.self c.args.clock.now c.get_by-entry.new.clock gets.0 gets.1.0 (as_none key none absent) gets.1.2 gets.1.3))
 
 pub returns-clause-value : goal.returns-clause-value
 returns-clause-value g c =

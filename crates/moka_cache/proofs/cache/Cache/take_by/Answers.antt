@@ -3,10 +3,11 @@ use Rattle.std.specs.FinMap.{insert}
 use Rattle.moka_parts.specs.State.{Meaning, is_disabled}
 use Rattle.moka_laws.proofs.RunKeeps.{keeps_itself}
 use Rattle.moka_calls.specs.Synchronous.{meaning_of}
+use Rattle.moka_calls.proofs.Made.{made_none}
 use Rattle.moka_cache.proofs.Waiting.{remove_hands_out}
 use Rattle.moka_cache.proofs.Asking.{took_none, took}
 use Rattle.moka_cache.proofs.Gone.{has_left, value_taken}
-use Rattle.moka_cache.proofs.ByTest.{removed_as_key, removed_some_key}
+use Rattle.moka_cache.proofs.ByTest.{removed_as_key, removed_from_none, removed_none, removed_some_key}
 use Rattle.moka_cache.proofs.cache.Cache.take_by.Goals as goal
 
 pub returns-in_default-clause-made : goal.returns-in_default-clause-made
@@ -57,3 +58,14 @@ pub returns-clause-value : goal.returns-clause-value
 returns-clause-value g c =
     let as_key = removed_as_key g.K.PartialEq.eq (g.T.KeyTest.passes c.args.test.now) (g.met.T.KeyTest.one_key c.args.test.now) c.self.inside.engine.state (Some (c.in-Some.entry, c.in-Some.ticket)) c.remove_by.new.self.state c.in-Some.ensures.step in
     rw (← c.self.view_is) (λ key passing. value_taken g.K.PartialEq.eq key c.self.inside.engine.state c.remove_by.new.self.state (Some (c.in-Some.entry, c.in-Some.ticket)) (as_key key passing))
+
+pub returns-in_default-clause-none : goal.returns-in_default-clause-none
+returns-in_default-clause-none g c =
+    let m : Meaning g.row.K.Denot g.row.V.Denot g.row.X.Denot g.row.L.Denot g.row.P.Denot g.row.W.Denot g.row.C.Denot (Unit {0}) = meaning_of g.K.PartialEq.eq g.L.Listener.tells g.P.PredicateFn.says g.W.Weigher.weighs g.C.Clock.reads g.X.Expiry.created g.X.Expiry.read g.X.Expiry.updated in
+    let left = removed_none g.K.PartialEq.eq (g.T.KeyTest.passes c.args.test.now) (g.met.T.KeyTest.one_key c.args.test.now) c.self.inside.engine.state None c.remove_by.new.self.state c.in_default.ensures.step in
+    rw (← c.self.view_is) (λ none. (refl, made_none m c.self.inside.engine c.remove_by.new.self c.args.clock.now (left none).1 c.in_default.ensures.events))
+
+pub returns-clause-none : goal.returns-clause-none
+returns-clause-none g c =
+    let left = removed_from_none g.K.PartialEq.eq (g.T.KeyTest.passes c.args.test.now) (g.met.T.KeyTest.one_key c.args.test.now) c.self.inside.engine.state (c.in-Some.entry, c.in-Some.ticket) c.remove_by.new.self.state c.in-Some.ensures.step in
+    rw (← c.self.view_is) (λ none. absurd (left none))
