@@ -60,40 +60,63 @@ fn run_hashed<S: BuildHasher + Default>(
     stream: &[u8],
 ) -> Result<Counts, Failure>
 {
+    let hasher = S::default();
     if config.is_synchronous {
-        return count(
-            Synchronous::new(alloc, S::default(), config),
-            config,
-            stream,
-        );
+        let made = Synchronous::new(alloc, hasher, config);
+        return count(made, config, stream);
     }
     if config.texts > 0 {
-        return count(Texts::new(alloc, S::default(), config), config, stream);
+        return count(Texts::new(alloc, hasher, config), config, stream);
     }
     if config.has_expiry {
-        let given = config.plain().expire_after(BY_VALUE);
-        let made = Driven::new(alloc, Apart(S::default()), given, config.is_automatic);
-        return count(made, config, stream);
+        return run_expiring(alloc, Apart(hasher), config, stream);
     }
     if config.has_listener {
-        let given = config.plain().eviction_listener(Heard(0));
-        let made = Driven::new(
-            alloc,
-            Apart(Apart(S::default())),
-            given,
-            config.is_automatic,
-        );
-        return count(made, config, stream);
+        return run_listening(alloc, Apart(Apart(hasher)), config, stream);
     }
     if config.has_weigher {
-        let (hasher, given) = (
-            Apart(Apart(Apart(S::default()))),
-            config.plain().weigher(ByRemainder),
-        );
-        let made = Driven::new(alloc, hasher, given, config.is_automatic);
-        return count(made, config, stream);
+        return run_weighing(alloc, Apart(Apart(Apart(hasher))), config, stream);
     }
-    let made = Driven::new(alloc, S::default(), config.plain(), config.is_automatic);
+    let made = Driven::new(alloc, hasher, config.plain(), config.is_automatic);
+    count(made, config, stream)
+}
+
+// Drives an engine whose entries have an expiry of their own.
+fn run_expiring<S: BuildHasher>(
+    alloc: Global,
+    hasher: S,
+    config: Config,
+    stream: &[u8],
+) -> Result<Counts, Failure>
+{
+    let given = config.plain().expire_after(BY_VALUE);
+    let made = Driven::new(alloc, hasher, given, config.is_automatic);
+    count(made, config, stream)
+}
+
+// Drives an engine with a listener.
+fn run_listening<S: BuildHasher>(
+    alloc: Global,
+    hasher: S,
+    config: Config,
+    stream: &[u8],
+) -> Result<Counts, Failure>
+{
+    let given = config.plain().eviction_listener(Heard(0));
+    let made = Driven::new(alloc, hasher, given, config.is_automatic);
+    count(made, config, stream)
+}
+
+// Drives an engine with a weigher.
+fn run_weighing<S: BuildHasher>(
+    alloc: Global,
+    hasher: S,
+    config: Config,
+    stream: &[u8],
+) -> Result<Counts, Failure>
+{
+    let given = config.plain().weigher(ByRemainder);
+    let made = Driven::new(alloc, hasher, given, config.is_automatic);
     count(made, config, stream)
 }
 
