@@ -199,7 +199,7 @@ class Symbols(unittest.TestCase):
 
     def test_symbols(self):
         module = 'define i64 @"a::b::A::f::<#1f>"(ptr %0) {\ndefine void @main() {\n'
-        module += 'define void @"all_tests::c::f"() {\n'
+        module += 'define void @"all_calls::c::f"() {\n'
         module += 'declare void @"a::b::g"()\n  call void @"a::b::h"()\n'
         self.assertEqual(symbols(module), "a::b::A::f\nmain\nc::f\n")
 
