@@ -17,9 +17,10 @@ enum Case {
     TellsNameAndPolicy,
     HidesAll,
     HidesWhatIsCovered,
+    LendsASegment,
 }
 
-const CASES: [(Case, &str); 5] = [
+const CASES: [(Case, &str); 6] = [
     (Case::Counts, "what was put is found and counted"),
     (
         Case::MakesValues,
@@ -30,6 +31,10 @@ const CASES: [(Case, &str); 5] = [
     (
         Case::HidesWhatIsCovered,
         "a predicate hides what it covers in each segment",
+    ),
+    (
+        Case::LendsASegment,
+        "a segment that is lent makes calls of its own",
     ),
 ];
 
@@ -61,6 +66,7 @@ fn is_right(cache: &mut Segmented, case: &Case) -> bool {
         Case::TellsNameAndPolicy => tells_name_and_policy(cache),
         Case::HidesAll => fill(cache) && hides_all(cache),
         Case::HidesWhatIsCovered => fill(cache) && hides_what_is_covered(cache),
+        Case::LendsASegment => lends_a_segment(cache),
     }
 }
 
@@ -143,6 +149,17 @@ fn hides_what_is_covered(cache: &mut Segmented) -> bool {
     matches!(first, (4, None))
         && matches!(again, (0, Some(PredicateError::NoFreeId)))
         && listed(cache, NOW) == Some((190, 19_855))
+}
+
+// Whether the segment of a key, once it is lent, puts the key's value in, and has another capacity.
+fn lends_a_segment(cache: &mut Segmented) -> bool {
+    let clock = &mut FixedClock(NOW);
+    let own = cache.segment_of(&6);
+    let segment = cache.segment_mut(own);
+    let is_put = matches!(segment.get_or_insert(6, 60, NOW, clock), Ok(entry) if entry.is_fresh);
+    let is_set = segment.set_max_capacity(Some(1)).is_ok();
+    let is_found = matches!(cache.get(&6, NOW, clock), Ok(Some(60)));
+    is_put && is_set && is_found && cache.max_capacity() < Some(1_001)
 }
 
 // The capacity of the segment at an index.

@@ -23,7 +23,7 @@ use Rattle.moka_calls.proofs.Anytime.{tells_any}
 use Rattle.moka_laws.proofs.Quiet.{nothing_heard}
 use Rattle.moka_calls.proofs.Made.{made_nothing, made_one, befalls_more}
 use Rattle.moka_segment_laws.specs.Laws.{Move, MoveAfterMove}
-use Rattle.moka_segment_laws.specs.Moves.{for_all_calls, IsOneMove, AreOneEach, MayRegister, MovesBy, MovesGoOn, IsMoveBy, CallsByKeyAreMoves, GetWithIsMove, GetWithIfMadeIsMove, GetWithIfNoErrorIsMove, CallsOfAllAreMoves, RegisteringIsMoves}
+use Rattle.moka_segment_laws.specs.Moves.{for_all_calls, IsOneMove, AreOneEach, MayRegister, MovesBy, MovesGoOn, IsMoveBy, CallsByKeyAreMoves, LentCallsAreMoves, GetWithIsMove, GetWithIfMadeIsMove, GetWithIfNoErrorIsMove, CallsOfAllAreMoves, RegisteringIsMoves}
 use Rattle.moka_segments.specs.Registering.{AllRegister, Registers, HasNoRoom}
 use Rattle.moka_router.specs.Routing.{Routing, segment_of}
 use Rattle.moka_segments.specs.Segmented.{Segmented, Steps}
@@ -151,6 +151,18 @@ module _ {K V S X L P W C : Type 0} (m : Meaning K V X L P W C (Unit {0})) (is_k
   each_ran now clock more clock_after (x ∷ xs) (y ∷ ys) (first, between, rest, one, others, told) =
       (between, makes_wide (Just (own_run now) (reply.Run first)) _ (λ calls replies fit. (first, fit)) x.engine y.engine clock between one.made, each_ran now between rest clock_after xs ys others)
   each_ran now clock more clock_after xs ys all = absurd all
+
+  pub lent_calls : LentCallsAreMoves S m is_key_clone is_clone
+  lent_calls = record {
+    of_entries = λ v clock clock_after old new steps. lent_one v clock clock_after old new steps (λ x y. made_for_all m is_key_clone is_clone v.calls v.replies x.engine y.engine clock clock_after);
+    of_clones = λ v clock clock_after old new steps. lent_one v clock clock_after old new steps (λ x y. made_with_ids m is_key_clone is_clone v.calls v.replies x.engine y.engine clock clock_after);
+  }
+    where
+      lent_one : (v : Move K V P) (clock clock_after : C) (old new : Segmented K V S X L P W) {Step : Synchronous K V S X L P W → Synchronous K V S X L P W → Type 0} → Steps v.index Step old new
+          → ((x y : Synchronous K V S X L P W) → Step x y → Made (for_all_calls is_key_clone is_clone m) v.calls v.replies x.engine clock y.engine clock_after) → MoveAfterMove (for_all_calls is_key_clone is_clone m) (v ∷ []) clock old clock_after new
+      lent_one v clock clock_after old new steps wide =
+          let one = steps.one in
+          (new, clock_after, record { routing = steps.routing; one = record { before = one.before; after = one.after; there = one.there; step = wide one.before one.after one.step; others = one.others } }, (refl, refl))
 
   pub calls_of_all : CallsOfAllAreMoves S m is_key_clone is_clone
   calls_of_all = record {

@@ -146,6 +146,17 @@ module _ {K V S X L P W C : Type 0} (hash_of : S → K → ℕ) (m : Meaning K V
 
 module _ {K V X L P W C : Type 0} (S : Type 0) (m : Meaning K V X L P W C (Unit {0})) (is_key_clone : K → K → Type 0)
     (is_clone : V → V → Type 0) where
+  -- what is made of the segment at an index, as by the borrower of one that is lent, is that move; its listener may
+  -- hear of clones
+  abbrev pub IsMoveOfLent : Meaning K V X L P W C (Unit {0}) → Type 0
+  IsMoveOfLent heard = (v : Move K V P) (clock clock_after : C) (old new : Segmented K V S X L P W)
+      → Steps v.index (λ s t. Made heard v.calls v.replies s.engine clock t.engine clock_after) old new
+      → MoveAfterMove (for_all_calls is_key_clone is_clone m) (v ∷ []) clock old clock_after new
+
+  pub record LentCallsAreMoves : Type 0 where
+    pub of_entries : IsMoveOfLent m
+    pub of_clones : IsMoveOfLent (record m { tells = hears_clones is_key_clone is_clone m.tells })
+
   -- what leads from one cache to another is one move of each segment in turn, whose calls fit
   abbrev pub IsMoveOfEach : C → C → (Segmented K V S X L P W → Segmented K V S X L P W → Type 0) →
       (List (Call K V P) → List (Reply K V P) → Type 0) → Type 0

@@ -6,7 +6,7 @@ ghost use Rattle.moka_calls.specs.Synchronous.{meaning_of};
 ghost use Rattle.moka_segments.specs.Built.{SharesSum};
 ghost use Rattle.moka_segments.specs.Keys.{HoldNone, KeysBelong};
 ghost use Rattle.moka_segment_laws.specs.Laws.{CallsByKeyKeepKeys, CallsOfAllKeepKeys, EachMovesAlone, EachRuns, GetWithIfMadeKeepsKeys, GetWithIfNoErrorKeepsKeys, GetWithKeepsKeys, KeysStay, OneSegmentEach, RegisteringKeepsKeys};
-ghost use Rattle.moka_segment_laws.specs.Moves.{CallsByKeyAreMoves, CallsOfAllAreMoves, GetWithIfMadeIsMove, GetWithIfNoErrorIsMove, GetWithIsMove, MovesGoOn, RegisteringIsMoves, for_all_calls};
+ghost use Rattle.moka_segment_laws.specs.Moves.{CallsByKeyAreMoves, CallsOfAllAreMoves, GetWithIfMadeIsMove, GetWithIfNoErrorIsMove, GetWithIsMove, LentCallsAreMoves, MovesGoOn, RegisteringIsMoves, for_all_calls};
 ghost use Rattle.moka_segments.specs.Segmented.{Segmented};
 
 use moka_parts::closures::{PredicateFn, Weigher};
@@ -245,6 +245,23 @@ pub fn other_makers_are_moves<
     ensures try_get_with { GetWithIfNoErrorIsMove
         (λ h k. key_hash S.BuildHasher S.Hasher.Hasher h (K.hash_input k))
         (meaning_of K.eq L.tells P.says W.weighs C.reads X.created X.read X.updated) K.is_clone V.is_clone F.post }
+{}
+
+/// Calls of the reference cache that are made of a segment that `segment_mut` lends are one move of that segment. So is
+/// what each of its own calls ensures that takes a clock (`Made`), as those of entries, for many keys, or by a test of
+/// the key; `restore` and `restore_entry` are none.
+pub fn lent_calls_are_moves<
+    K: Eq + Clone,
+    V: Clone,
+    S,
+    X: Expiry<K, V>,
+    L: Listener<K, V>,
+    P: PredicateFn<K, V>,
+    W: Weigher<K, V>,
+    C: Clock,
+>()
+    ensures { LentCallsAreMoves S
+        (meaning_of K.eq L.tells P.says W.weighs C.reads X.created X.read X.updated) K.is_clone V.is_clone }
 {}
 
 /// What each call that concerns all segments ensures is a move of each in turn; `registering_is_moves` speaks of

@@ -5,7 +5,11 @@ use Rattle.moka_engine.specs.parts.InsertRefused.{InsertRefused}
 use Rattle.moka_engine.specs.parts.Instant.{Instant}
 use Rattle.moka_engine.specs.parts.OutOfMemory.{OutOfMemory}
 use Rattle.moka_engine.specs.State.{Meaning}
+use Rattle.moka_cache.specs.parts.CacheEntry.{CacheEntry}
+use Rattle.moka_cache.specs.Entries.{OrInserts}
+use Rattle.moka_cache.specs.Synchronous.{GetsOrInserts}
 use Rattle.moka_router.specs.Routing.{segment_of}
+use Rattle.moka_segment_laws.specs.Moves.{IsOneMove, MovesBy, for_all_calls}
 use Rattle.moka_segments.specs.Segmented.{Segmented, Steps}
 use Rattle.moka_segments.specs.Steps.{Gets, Inserts}
 use Rattle.moka_segments.specs.Whole.{AllRan}
@@ -34,3 +38,19 @@ InsertsAndFinds {K} {V} {S} {X} {L} {P} {W} {C} hash_of m is_clone key value sou
     × InsertsInOne hash_of m key value now old clock mid between put
     × Steps (segment_of mid.routing.count (hash_of mid.routing.hasher sought))
     (Gets m hash_of sought now between after is_clone got) mid new
+
+module _ {K V S X L P W C : Type 0} (hash_of : S → K → ℕ) (m : Meaning K V X L P W C (Unit {0}))
+    (is_key_clone : K → K → Type 0) (is_clone : V → V → Type 0) where
+  -- the segment that the key belongs to was looked up, and the value put in if none was visible; every other is as it was
+  abbrev pub OrInsertsInOne : K → V → Instant → Segmented K V S X L P W → C → Segmented K V S X L P W → C →
+      Result (CacheEntry K V) (InsertRefused K V) → Type 0
+  OrInsertsInOne key value now old clock new clock_after result =
+      Steps (segment_of old.routing.count (hash_of old.routing.hasher key)) (λ s t.
+      OrInserts m is_key_clone is_clone key (hash_of s.engine.hasher key) now s clock t clock_after value result) old new
+
+  -- that is one move, of this segment: a get, and an insert of what was put in, if anything was
+  abbrev pub GetsOrPuts : K → Instant → Segmented K V S X L P W → C → Segmented K V S X L P W → C → Type 0
+  GetsOrPuts key now old clock new clock_after = (put : Option V) × (own : Result V (Option (InsertRefused K V)))
+      × MovesBy (for_all_calls is_key_clone is_clone m)
+      (IsOneMove old.segments (segment_of old.routing.count (hash_of old.routing.hasher key))
+      (λ hasher. GetsOrInserts key (hash_of hasher key) now put own)) clock old clock_after new

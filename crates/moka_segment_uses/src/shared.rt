@@ -5,13 +5,15 @@ ghost use Rattle.moka_cache.specs.Synchronous.{meaning_of};
 ghost use Rattle.moka_segments.specs.Keys.{AreInOneSegment, KeysBelong};
 ghost use Rattle.moka_segment_laws.specs.Moves.{InsertsThenGets};
 ghost use Rattle.moka_segments.specs.Whole.{saturated, total, whole_capacity};
-ghost use Rattle.moka_segment_uses.specs.Shared.{EachRan, InsertsAndFinds, InsertsInOne};
+ghost use Rattle.moka_segment_uses.specs.Shared.{EachRan, GetsOrPuts, InsertsAndFinds, InsertsInOne, OrInsertsInOne};
 
+use moka_cache::CacheEntry;
 use moka_engine::{
     Clock, Expiry, FixedClock, InsertRefused, Instant, Listener, OutOfMemory, PredicateFn, Weigher,
 };
 use moka_segment_laws::laws::{
-    calls_by_key_are_moves, calls_by_key_keep_keys, one_segment_each, own_calls_run,
+    calls_by_key_are_moves, calls_by_key_keep_keys, lent_calls_are_moves, one_segment_each,
+    own_calls_run,
 };
 use moka_segments::SegmentedCache;
 use std::hash::{BuildHasher, Hash};
@@ -108,4 +110,37 @@ pub fn put_and_find<
     let put = cache.insert(key, value, now, clock);
     let found = cache.get(sought, now, clock);
     (put, found)
+}
+
+/// A clone of a key's value, or, if none is visible, of the value that is put in: an entry call of the segment that the
+/// key belongs to, and so a move of this segment, as the cache's own calls by key are (`lent_calls_are_moves`).
+///
+/// # Errors
+/// As `Cache::get_or_insert`: key and value come back, and nothing was put in.
+pub fn get_or_put<
+    K: Eq + Hash + Clone + Drop,
+    V: Clone + Drop,
+    S: BuildHasher,
+    X: Expiry<K, V>,
+    L: Listener<K, V>,
+    P: PredicateFn<K, V> + Drop,
+    W: Weigher<K, V>,
+    C: Clock,
+>(
+    cache: &mut SegmentedCache<K, V, X, L, P, W, S>,
+    key: K,
+    value: V,
+    now: Instant,
+    clock: &mut C,
+) -> Result<CacheEntry<K, V>, InsertRefused<K, V>>
+    ensures made { OrInsertsInOne (λ h k. key_hash S.BuildHasher S.Hasher.Hasher h (K.hash_input k))
+        (meaning_of K.eq L.tells P.says W.weighs C.reads X.created X.read X.updated) K.is_clone V.is_clone key value now
+        cache.old clock.old cache.new clock.new result }
+    ensures moves { GetsOrPuts (λ h k. key_hash S.BuildHasher S.Hasher.Hasher h (K.hash_input k))
+        (meaning_of K.eq L.tells P.says W.weighs C.reads X.created X.read X.updated) K.is_clone V.is_clone key now
+        cache.old clock.old cache.new clock.new }
+{
+    lent_calls_are_moves::<K, V, S, X, L, P, W, C>();
+    let own = cache.segment_of(&key);
+    cache.segment_mut(own).get_or_insert(key, value, now, clock)
 }

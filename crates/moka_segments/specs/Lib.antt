@@ -1,5 +1,6 @@
 pub mod Segmented
 pub mod Steps
+pub mod Lending
 pub mod Whole
 pub mod Listing
 pub mod Registering

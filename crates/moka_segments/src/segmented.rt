@@ -77,6 +77,9 @@ impl<
     W: Weigher<K, V>,
     S: BuildHasher,
 > SegmentedCache<K, V, X, L, P, W, S> {
+    ghost use Rattle.std.specs.Borrow.{sem};
+    ghost use Rattle.moka_segments.specs.Lending.{LendsSegment};
+
     /// The cache of these segments, as many as the router knows.
     pub fn from_parts(router: Router<S>, segments: Vec<Cache<K, V, X, L, P, W, S>>) -> Self
         requires { length segments.items ≡ router.count }
@@ -85,16 +88,7 @@ impl<
         SegmentedCache { router, segments }
     }
 
-    /// The router and the segments, so that each segment can have a lock of its own, or make a call that this cache has
-    /// none of, as those of entries, for many keys, or by a test of the key:
-    ///
-    /// ```text
-    /// let (router, mut segments) = cache.into_parts();
-    /// let own = router.segment_of(&key);
-    /// let entry = segments[own].entry(key);
-    /// let found = entry.or_insert(value, now, &mut clock)?;
-    /// let cache = SegmentedCache::from_parts(router, segments);
-    /// ```
+    /// The router and the segments, so that each segment can have a lock of its own.
     ///
     /// Each key is to stay in the segment that the router names, or it is not found.
     pub fn into_parts(self) -> (Router<S>, Vec<Cache<K, V, X, L, P, W, S>>)
@@ -121,6 +115,37 @@ impl<
         &self.segments[index]
     }
 
+    /// The segment at an index, for a call that this cache has none of, as those of entries, for many keys, by a test of
+    /// the key, snapshots and a new capacity:
+    ///
+    /// ```text
+    /// let own = cache.segment_of(&key);
+    /// let entry = cache.segment_mut(own).entry(key).or_insert(value, now, &mut clock)?;
+    /// ```
+    ///
+    /// Each key is to stay in the segment that it belongs to, or it is not found.
+    pub fn segment_mut(&mut self, index: usize) -> &mut Cache<K, V, X, L, P, W, S>
+        requires { index < length self.old.segments }
+        ensures* lends { sem 𝓛 (LendsSegment K.row V.row X.row L.row P.row W.row S.row S.Hasher.row
+            K.PartialEq K.Hash.own X.Expiry S.BuildHasher S.Hasher.Hasher self.entry index result) }
+        ensures is { IsAt self.old.segments index result.now }
+    {
+        &mut self.segments[index]
+    }
+
+    // The segment that a key belongs to.
+    fn own_segment(&mut self, key: &K) -> &mut Cache<K, V, X, L, P, W, S>
+        ensures* lends { sem 𝓛 (LendsSegment K.row V.row X.row L.row P.row W.row S.row S.Hasher.row
+            K.PartialEq K.Hash.own X.Expiry S.BuildHasher S.Hasher.Hasher self.entry
+            (segment_of self.old.routing.count
+            (key_hash S.BuildHasher S.Hasher.Hasher self.old.routing.hasher (K.hash_input key.now))) result) }
+        ensures is { IsAt self.old.segments (segment_of self.old.routing.count
+            (key_hash S.BuildHasher S.Hasher.Hasher self.old.routing.hasher (K.hash_input key.now))) result.now }
+    {
+        let index = self.segment_of(key);
+        self.segment_mut(index)
+    }
+
     // The first segment: a router knows of one at least.
     pub(crate) fn first(&self) -> &Cache<K, V, X, L, P, W, S>
         ensures { IsAt self.now.segments 0 result.now }
@@ -145,8 +170,8 @@ impl<
             (key_hash S.BuildHasher S.Hasher.Hasher self.now.routing.hasher (K.hash_input key.now)))
             (λ s. ContainsStep P.says K.eq s.engine.state key.now now.0 result) self.now.segments }
     {
-        let index = self.router.segment_of(key);
-        self.segments[index].contains_key(key, now)
+        let index = self.segment_of(key);
+        self.segment(index).contains_key(key, now)
     }
 
     /// Puts a value under a key at the moment `now`. A segment of capacity 0 drops both.
@@ -171,8 +196,7 @@ impl<
             self.old self.new }
         ensures back { IfErr result (λ refused. (refused.key ≡ key) × (refused.value ≡ value)) }
     {
-        let index = self.router.segment_of(&key);
-        self.segments[index].insert(key, value, now, clock)
+        self.own_segment(&key).insert(key, value, now, clock)
     }
 
     /// A clone of a key's value, if the key is there and visible at the moment `now`. The read is queued.
@@ -196,8 +220,7 @@ impl<
             clock.new V.is_clone result)
             self.old self.new }
     {
-        let index = self.router.segment_of(key);
-        self.segments[index].get(key, now, clock)
+        self.own_segment(key).get(key, now, clock)
     }
 
     /// Takes a key out, and hands its value out, expired or not. The listener, if one is set, is notified.
@@ -227,8 +250,7 @@ impl<
             ≡ option_map (λ r. r.value) (record_of_key K.eq old.engine.state.records key.now))
             self.old self.new }
     {
-        let index = self.router.segment_of(key);
-        self.segments[index].remove(key, now, clock)
+        self.own_segment(key).remove(key, now, clock)
     }
 
     /// As `remove`, without the value.
@@ -252,8 +274,7 @@ impl<
             K.is_clone V.is_clone (λ taken. result ≡ invalidated taken))
             self.old self.new }
     {
-        let index = self.router.segment_of(key);
-        self.segments[index].invalidate(key, now, clock)
+        self.own_segment(key).invalidate(key, now, clock)
     }
 
     /// A clone of a key's value, if the key is there and visible at the moment `now`, and else the value that `init`
@@ -282,8 +303,7 @@ impl<
             V.is_clone (F.post init) result)
             self.old self.new }
     {
-        let index = self.router.segment_of(&key);
-        self.segments[index].get_with(key, init, now, clock)
+        self.own_segment(&key).get_with(key, init, now, clock)
     }
 
     /// As `get_with`, for a maker that may decline: then nothing is inserted, and `None` is answered.
@@ -311,8 +331,8 @@ impl<
             V.is_clone (F.post init) result)
             self.old self.new }
     {
-        let index = self.router.segment_of(&key);
-        self.segments[index].optionally_get_with(key, init, now, clock)
+        self.own_segment(&key)
+            .optionally_get_with(key, init, now, clock)
     }
 
     /// As `get_with`, for a maker that may fail: then nothing is inserted, and its error is answered.
@@ -340,7 +360,6 @@ impl<
             V.is_clone (F.post init) result)
             self.old self.new }
     {
-        let index = self.router.segment_of(&key);
-        self.segments[index].try_get_with(key, init, now, clock)
+        self.own_segment(&key).try_get_with(key, init, now, clock)
     }
 }

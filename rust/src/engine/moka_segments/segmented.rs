@@ -38,22 +38,14 @@ impl<
     W: Weigher<K, V>,
     S: BuildHasher,
 > SegmentedCache<K, V, X, L, P, W, S> {
+
     /// The cache of these segments, as many as the router knows.
     pub fn from_parts(router: Router<S>, segments: Vec<Cache<K, V, X, L, P, W, S>>) -> Self
     {
         SegmentedCache { router, segments }
     }
 
-    /// The router and the segments, so that each segment can have a lock of its own, or make a call that this cache has
-    /// none of, as those of entries, for many keys, or by a test of the key:
-    ///
-    /// ```text
-    /// let (router, mut segments) = cache.into_parts();
-    /// let own = router.segment_of(&key);
-    /// let entry = segments[own].entry(key);
-    /// let found = entry.or_insert(value, now, &mut clock)?;
-    /// let cache = SegmentedCache::from_parts(router, segments);
-    /// ```
+    /// The router and the segments, so that each segment can have a lock of its own.
     ///
     /// Each key is to stay in the segment that the router names, or it is not found.
     pub fn into_parts(self) -> (Router<S>, Vec<Cache<K, V, X, L, P, W, S>>)
@@ -74,6 +66,27 @@ impl<
         &self.segments[index]
     }
 
+    /// The segment at an index, for a call that this cache has none of, as those of entries, for many keys, by a test of
+    /// the key, snapshots and a new capacity:
+    ///
+    /// ```text
+    /// let own = cache.segment_of(&key);
+    /// let entry = cache.segment_mut(own).entry(key).or_insert(value, now, &mut clock)?;
+    /// ```
+    ///
+    /// Each key is to stay in the segment that it belongs to, or it is not found.
+    pub fn segment_mut(&mut self, index: usize) -> &mut Cache<K, V, X, L, P, W, S>
+    {
+        &mut self.segments[index]
+    }
+
+    // The segment that a key belongs to.
+    fn own_segment(&mut self, key: &K) -> &mut Cache<K, V, X, L, P, W, S>
+    {
+        let index = self.segment_of(key);
+        self.segment_mut(index)
+    }
+
     // The first segment: a router knows of one at least.
     pub(crate) fn first(&self) -> &Cache<K, V, X, L, P, W, S>
     {
@@ -91,8 +104,8 @@ impl<
     /// Whether a key is there and visible at the moment `now`. Nothing is recorded.
     pub fn contains_key(&self, key: &K, now: Instant) -> bool
     {
-        let index = self.router.segment_of(key);
-        self.segments[index].contains_key(key, now)
+        let index = self.segment_of(key);
+        self.segment(index).contains_key(key, now)
     }
 
     /// Puts a value under a key at the moment `now`. A segment of capacity 0 drops both.
@@ -107,8 +120,7 @@ impl<
         clock: &mut C,
     ) -> Result<(), InsertRefused<K, V>>
     {
-        let index = self.router.segment_of(&key);
-        self.segments[index].insert(key, value, now, clock)
+        self.own_segment(&key).insert(key, value, now, clock)
     }
 
     /// A clone of a key's value, if the key is there and visible at the moment `now`. The read is queued.
@@ -125,8 +137,7 @@ impl<
         K: Clone,
         V: Clone,
     {
-        let index = self.router.segment_of(key);
-        self.segments[index].get(key, now, clock)
+        self.own_segment(key).get(key, now, clock)
     }
 
     /// Takes a key out, and hands its value out, expired or not. The listener, if one is set, is notified.
@@ -144,8 +155,7 @@ impl<
         K: Clone,
         V: Clone,
     {
-        let index = self.router.segment_of(key);
-        self.segments[index].remove(key, now, clock)
+        self.own_segment(key).remove(key, now, clock)
     }
 
     /// As `remove`, without the value.
@@ -162,8 +172,7 @@ impl<
         K: Clone,
         V: Clone,
     {
-        let index = self.router.segment_of(key);
-        self.segments[index].invalidate(key, now, clock)
+        self.own_segment(key).invalidate(key, now, clock)
     }
 
     /// A clone of a key's value, if the key is there and visible at the moment `now`, and else the value that `init`
@@ -182,8 +191,7 @@ impl<
         K: Clone,
         V: Clone,
     {
-        let index = self.router.segment_of(&key);
-        self.segments[index].get_with(key, init, now, clock)
+        self.own_segment(&key).get_with(key, init, now, clock)
     }
 
     /// As `get_with`, for a maker that may decline: then nothing is inserted, and `None` is answered.
@@ -201,8 +209,8 @@ impl<
         K: Clone,
         V: Clone,
     {
-        let index = self.router.segment_of(&key);
-        self.segments[index].optionally_get_with(key, init, now, clock)
+        self.own_segment(&key)
+            .optionally_get_with(key, init, now, clock)
     }
 
     /// As `get_with`, for a maker that may fail: then nothing is inserted, and its error is answered.
@@ -220,7 +228,6 @@ impl<
         K: Clone,
         V: Clone,
     {
-        let index = self.router.segment_of(&key);
-        self.segments[index].try_get_with(key, init, now, clock)
+        self.own_segment(&key).try_get_with(key, init, now, clock)
     }
 }

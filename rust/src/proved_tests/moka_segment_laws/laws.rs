@@ -194,6 +194,21 @@ pub fn other_makers_are_moves<
 >()
 {}
 
+/// Calls of the reference cache that are made of a segment that `segment_mut` lends are one move of that segment. So is
+/// what each of its own calls ensures that takes a clock (`Made`), as those of entries, for many keys, or by a test of
+/// the key; `restore` and `restore_entry` are none.
+pub fn lent_calls_are_moves<
+    K: Eq + Clone,
+    V: Clone,
+    S,
+    X: Expiry<K, V>,
+    L: Listener<K, V>,
+    P: PredicateFn<K, V>,
+    W: Weigher<K, V>,
+    C: Clock,
+>()
+{}
+
 /// What each call that concerns all segments ensures is a move of each in turn; `registering_is_moves` speaks of
 /// predicates.
 pub fn calls_of_all_are_moves<

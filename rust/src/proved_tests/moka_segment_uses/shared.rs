@@ -2,11 +2,13 @@
 //! A cache in segments that keeps its bound, and each key in one segment, each of which is a cache of its own.
 use crate::support::prelude::*;
 
+use crate::engine::moka_cache::CacheEntry;
 use crate::engine::moka_engine::{
     Clock, Expiry, FixedClock, InsertRefused, Instant, Listener, OutOfMemory, PredicateFn, Weigher,
 };
 use crate::proved_tests::moka_segment_laws::laws::{
-    calls_by_key_are_moves, calls_by_key_keep_keys, one_segment_each, own_calls_run,
+    calls_by_key_are_moves, calls_by_key_keep_keys, lent_calls_are_moves, one_segment_each,
+    own_calls_run,
 };
 use crate::engine::moka_segments::SegmentedCache;
 use crate::support::hash::{BuildHasher, Hash};
@@ -86,4 +88,31 @@ pub fn put_and_find<
     let put = cache.insert(key, value, now, clock);
     let found = cache.get(sought, now, clock);
     (put, found)
+}
+
+/// A clone of a key's value, or, if none is visible, of the value that is put in: an entry call of the segment that the
+/// key belongs to, and so a move of this segment, as the cache's own calls by key are (`lent_calls_are_moves`).
+///
+/// # Errors
+/// As `Cache::get_or_insert`: key and value come back, and nothing was put in.
+pub fn get_or_put<
+    K: Eq + Hash + Clone,
+    V: Clone,
+    S: BuildHasher,
+    X: Expiry<K, V>,
+    L: Listener<K, V>,
+    P: PredicateFn<K, V>,
+    W: Weigher<K, V>,
+    C: Clock,
+>(
+    cache: &mut SegmentedCache<K, V, X, L, P, W, S>,
+    key: K,
+    value: V,
+    now: Instant,
+    clock: &mut C,
+) -> Result<CacheEntry<K, V>, InsertRefused<K, V>>
+{
+    lent_calls_are_moves::<K, V, S, X, L, P, W, C>();
+    let own = cache.segment_of(&key);
+    cache.segment_mut(own).get_or_insert(key, value, now, clock)
 }

@@ -7,7 +7,7 @@ use crate::engine::moka_engine::{
     CacheConfig, DefaultHasher, FixedClock, Instant, NoExpiry, NoListener, NoPredicate, NoWeigher,
 };
 use crate::proved_tests::moka_segment_laws::laws::none_belong;
-use crate::proved_tests::moka_segment_uses::shared::{keep_bound, put_and_find, put_where_it_belongs};
+use crate::proved_tests::moka_segment_uses::shared::{get_or_put, keep_bound, put_and_find, put_where_it_belongs};
 use crate::engine::moka_segments::SegmentedCache;
 
 const NOW: Instant = Instant(0);
@@ -26,6 +26,14 @@ fn keeps_both(cache: &mut Segmented) -> bool {
     kept.weight == 2 && kept.most == Some(42)
 }
 
+// Whether a value is put in if there is none, and the one that is there is handed out then.
+fn puts_once(cache: &mut Segmented) -> bool {
+    let clock = &mut FixedClock(NOW);
+    let first = get_or_put(cache, 3, 30, NOW, clock);
+    let again = get_or_put(cache, 3, 31, NOW, clock);
+    matches!(first, Ok(entry) if entry.is_fresh) && matches!(again, Ok(entry) if entry.value == 30)
+}
+
 #[test]
 fn puts_where_it_belongs() {
     let rt = HostRuntime;
@@ -35,5 +43,7 @@ fn puts_where_it_belongs() {
     };
     none_belong::<u64, u64, DefaultHasher, NoExpiry, NoListener, NoPredicate, NoWeigher>();
     let is_put = put_where_it_belongs(&mut cache, 1, 10, NOW, &mut FixedClock(NOW)).is_ok();
-    assert!( is_put && finds_both(&mut cache) && keeps_both(&mut cache));
+    assert!(
+        is_put && finds_both(&mut cache) && keeps_both(&mut cache) && puts_once(&mut cache)
+    );
 }

@@ -1,23 +1,10 @@
-use Rattle.std.proofs.Common.{◌∙◌}
-use Rattle.std.proofs.lemmas.List.{length-set}
-use Rattle.moka_router.specs.Routing.{segment_of}
-use Rattle.moka_segments.proofs.OneSegment.{steps_in, within_all}
-use Rattle.moka_parts.specs.Hashing.{key_hash}
+use Rattle.moka_segments.proofs.OneSegment.{steps_in}
 use Rattle.moka_segments.proofs.segmented.SegmentedCache.remove.Goals as goal
 
 pub returns-clause-step : goal.returns-clause-step
 returns-clause-step g c =
     let e = c.remove.ensures in
-    steps_in (λ r. segment_of r.count (key_hash g.S.BuildHasher g.S.Hasher.Hasher r.hasher (g.K.Hash.hash_input c.args.key.now))) c.self.view_is c.segment_of-index.ensures.place (rw c.self.invariant c.segment_of-index.ensures.within)
-    _ c.index_mut.result.now c.remove.new.self c.index_mut.ensures.value (record { made = e.made; gone = e.gone; counted = e.counted })
+    steps_in c.args.self.now _ _ c.own_segment.result.now c.remove.new.self c.own_segment.ensures.is (record { made = e.made; gone = e.gone; counted = e.counted })
 
 pub returns-clause-value : goal.returns-clause-value
-returns-clause-value g c =
-    steps_in (λ r. segment_of r.count (key_hash g.S.BuildHasher g.S.Hasher.Hasher r.hasher (g.K.Hash.hash_input c.args.key.now))) c.self.view_is c.segment_of-index.ensures.place (rw c.self.invariant c.segment_of-index.ensures.within)
-    _ c.index_mut.result.now c.remove.new.self c.index_mut.ensures.value c.remove.ensures.value
-
-pub index_mut-requires : goal.index_mut-requires
-index_mut-requires g c = within_all c.self.inside.segments.ok.0 c.self.invariant c.segment_of-index.ensures.within
-
-pub invariant_of-self : goal.invariant_of-self
-invariant_of-self g c = length-set c.self.inside.segments.items c.segment_of-index.result c.remove.new.self ∙ c.self.invariant
+returns-clause-value g c = steps_in c.args.self.now _ _ c.own_segment.result.now c.remove.new.self c.own_segment.ensures.is c.remove.ensures.value

@@ -1,0 +1,8 @@
+use Rattle.std.proofs.Common.{refl}
+use Rattle.moka_segments.proofs.OneSegment.{is_at}
+use Rattle.moka_segments.proofs.segmented.SegmentedCache.segment_mut.Goals as goal
+
+pub returns : goal.returns
+returns g c =
+    let within = rw (← c.self.view_is) at c.requires in
+    rw (← c.self.view_is) ((refl, λ written. refl), record { lends = tt; is = is_at c.self.inside.segments.items c.args.index c.index_mut.result.now within c.index_mut.ensures.value })
