@@ -3,6 +3,8 @@
 use crate::support::prelude::*;
 
 #[cfg(test)]
+mod calls;
+#[cfg(test)]
 mod cases;
 #[cfg(test)]
 mod index;

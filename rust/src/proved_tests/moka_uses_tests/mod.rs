@@ -13,6 +13,8 @@ mod handled;
 #[cfg(test)]
 mod invalidated;
 #[cfg(test)]
+mod laws;
+#[cfg(test)]
 mod makers;
 #[cfg(test)]
 mod owners;
