@@ -156,7 +156,7 @@ fn lends_a_segment(cache: &mut Segmented) -> bool {
     let clock = &mut FixedClock(NOW);
     let own = cache.segment_of(&6);
     let segment = cache.segment_mut(own);
-    let is_put = matches!(segment.get_or_insert(6, 60, NOW, clock), Ok(entry) if entry.is_fresh);
+    let is_put = matches!(segment.entry(6).or_insert(60, NOW, clock), Ok(entry) if entry.is_fresh);
     let is_set = segment.set_max_capacity(Some(1)).is_ok();
     let is_found = matches!(cache.get(&6, NOW, clock), Ok(Some(60)));
     is_put && is_set && is_found && cache.max_capacity() < Some(1_001)
