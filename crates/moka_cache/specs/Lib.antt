@@ -1,4 +1,5 @@
 pub mod Unsent
+pub mod Keyed
 pub mod Visible
 pub mod Saved
 pub mod parts

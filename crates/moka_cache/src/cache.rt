@@ -1,5 +1,5 @@
 //! The synchronous cache: put, get and remove in one call each. moka: `sync::cache`.
-ghost use Rattle.std.specs.Prelude.{◌≡◌, ◌≤◌, [], true, false, Option, Some, None, Result, Ok, Err, IfOk, IfSome, OnErr, IfErr, is_some, option_copied, unwrap_or, option_map};
+ghost use Rattle.std.specs.Prelude.{◌≡◌, ◌≤◌, [], true, false, Option, Some, None, Result, Ok, Err, IfOk, OnErr, IfErr, is_some, option_copied, unwrap_or, option_map};
 ghost use Rattle.std.specs.FinMap as finite;
 ghost use Rattle.moka_parts.specs.Calls.{CapacityStep, ContainsStep, InvalidateStep, no_events, only_ids};
 ghost use Rattle.moka_parts.specs.Copies.{IsCopiedAnswer};
@@ -15,6 +15,7 @@ ghost use Rattle.moka_parts.specs.declared.error.OutOfMemory.{OutOfMemory};
 ghost use Rattle.moka_parts.specs.declared.records.Operation.{Operation};
 ghost use Rattle.moka_parts.specs.declared.records.Record.{Record};
 ghost use Rattle.moka_parts.specs.Hashing.{key_hash};
+ghost use Rattle.moka_cache.specs.Keyed.{Gets, Inserts, Removes};
 ghost use Rattle.moka_cache.specs.Unsent.{HoldsUnsent, HidesNoMore, IsThere, ShowsWrites};
 ghost use Rattle.moka_parts.specs.Counters.{after_look_up, after_load};
 ghost use Rattle.moka_calls.specs.Given.{Sees, if_made, without_error};
@@ -215,18 +216,9 @@ impl<
         K: Drop,
         V: Drop,
         P: Drop,
-        ensures made { Makes (meaning_of K.eq L.tells P.says W.weighs C.reads X.created X.read X.updated)
-            (InsertsEntry key
-            (key_hash S.BuildHasher S.Hasher.Hasher self.old.engine.hasher (K.hash_input key)) value now result)
-            self.old.engine clock.old self.new.engine clock.new }
-        ensures back { IfErr result (λ refused. (refused.key ≡ key) × (refused.value ≡ value)) }
-        ensures unchanged { OnErr result ((self.new.engine.state ≡ self.old.engine.state) × (clock.new ≡ clock.old)) }
-        ensures kept { IfOk result (λ _. is_disabled self.old.engine.state.capacity ≡ false
-            → IsThere K.eq self.new.engine.state key value now) }
-        ensures shown { IfOk result (λ _. is_disabled self.old.engine.state.capacity ≡ false
-            → ShowsWrites self.old.engine.state now.0
-            → ContainsStep P.says K.eq self.new.engine.state key now.0 true) }
-        ensures counted { self.new.stats ≡ self.old.stats }
+        ensures { Inserts (meaning_of K.eq L.tells P.says W.weighs C.reads X.created X.read X.updated)
+            (λ h k. key_hash S.BuildHasher S.Hasher.Hasher h (K.hash_input k)) key now clock.old clock.new value result
+            self.old self.new }
     {
         let hash = self.engine.hash(&key);
         self.insert_hashed(Put { key, hash, value }, now, clock)
@@ -283,20 +275,9 @@ impl<
         K: Clone + Drop,
         V: Clone + Drop,
         P: Drop,
-        ensures made { (own : Result (Option V) OutOfMemory) × IsCopiedAnswer V.is_clone own result
-            × Makes (meaning_of K.eq L.tells P.says W.weighs C.reads X.created X.read X.updated)
-            (GetsValue key.now
-            (key_hash S.BuildHasher S.Hasher.Hasher self.old.engine.hasher (K.hash_input key.now)) now own)
-            self.old.engine clock.old self.new.engine clock.new }
-        ensures value { IfOk result (λ found. IfSome found (λ v. (r : Record K V)
-            × (record_of_key K.eq self.old.engine.state.records key.now ≡ Some r) × V.is_clone r.value v)) }
-        ensures sees { IfOk result (Sees K.eq P.says V.is_clone self.old.engine.state key.now now.0) }
-        ensures shown { IfOk result
-            (λ found. ContainsStep P.says K.eq self.old.engine.state key.now now.0 (is_some found)) }
-        ensures found { ContainsStep P.says K.eq self.old.engine.state key.now now.0 true
-            → IfOk result (λ found. is_some found ≡ true) }
-        ensures unchanged { OnErr result ((self.new.engine.state ≡ self.old.engine.state) × (clock.new ≡ clock.old)) }
-        ensures counted { self.new.stats ≡ after_look_up result self.old.stats }
+        ensures { Gets (meaning_of K.eq L.tells P.says W.weighs C.reads X.created X.read X.updated)
+            (λ h k. key_hash S.BuildHasher S.Hasher.Hasher h (K.hash_input k)) key.now now clock.old clock.new
+            V.is_clone result self.old self.new }
     {
         let hash = self.engine.hash(key);
         self.get_hashed(key, hash, now, clock)
@@ -353,16 +334,11 @@ impl<
         K: Clone + Drop,
         V: Clone + Drop,
         P: Drop,
-        ensures made { (taken : Option (V × Result (Unit {0}) OutOfMemory)) × (result ≡ removed taken)
-            × Makes (meaning_of K.eq (hears_clones K.is_clone V.is_clone L.tells) P.says W.weighs C.reads
-            X.created X.read X.updated)
-            (RemovesEntry key.now
-            (key_hash S.BuildHasher S.Hasher.Hasher self.old.engine.hasher (K.hash_input key.now)) now taken)
-            self.old.engine clock.old self.new.engine clock.new }
-        ensures gone { record_of_key K.eq self.new.engine.state.records key.now ≡ None }
+        ensures step { Removes (meaning_of K.eq L.tells P.says W.weighs C.reads X.created X.read X.updated)
+            (λ h k. key_hash S.BuildHasher S.Hasher.Hasher h (K.hash_input k)) key.now now clock.old clock.new
+            K.is_clone V.is_clone (λ taken. result ≡ removed taken) self.old self.new }
         ensures value { taken_out result
             ≡ option_map (λ r. r.value) (record_of_key K.eq self.old.engine.state.records key.now) }
-        ensures counted { self.new.stats ≡ self.old.stats }
     {
         let hash = self.engine.hash(key);
         removed(self.take(key, hash, now, clock))
@@ -382,14 +358,9 @@ impl<
         K: Clone + Drop,
         V: Clone + Drop,
         P: Drop,
-        ensures made { (taken : Option (V × Result (Unit {0}) OutOfMemory)) × (result ≡ invalidated taken)
-            × Makes (meaning_of K.eq (hears_clones K.is_clone V.is_clone L.tells) P.says W.weighs C.reads
-            X.created X.read X.updated)
-            (RemovesEntry key.now
-            (key_hash S.BuildHasher S.Hasher.Hasher self.old.engine.hasher (K.hash_input key.now)) now taken)
-            self.old.engine clock.old self.new.engine clock.new }
-        ensures gone { record_of_key K.eq self.new.engine.state.records key.now ≡ None }
-        ensures counted { self.new.stats ≡ self.old.stats }
+        ensures { Removes (meaning_of K.eq L.tells P.says W.weighs C.reads X.created X.read X.updated)
+            (λ h k. key_hash S.BuildHasher S.Hasher.Hasher h (K.hash_input k)) key.now now clock.old clock.new
+            K.is_clone V.is_clone (λ taken. result ≡ invalidated taken) self.old self.new }
     {
         let hash = self.engine.hash(key);
         invalidated(self.take(key, hash, now, clock))

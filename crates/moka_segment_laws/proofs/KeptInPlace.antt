@@ -18,7 +18,7 @@ use Rattle.moka_segment_laws.specs.Laws.{CallsByKeyKeepKeys, CallsOfAllKeepKeys,
 use Rattle.moka_segment_laws.specs.Moves.{AreOneEach, IsMoveBy, IsMoveOfEach, MayRegister, for_all_calls}
 use Rattle.moka_router.specs.Routing.{Routing}
 use Rattle.moka_segments.specs.Segmented.{Segmented}
-use Rattle.moka_segments.specs.Steps.{Inserts, Gets, Removes, GetsWith, GetsWithIfMade, GetsWithIfNoError}
+use Rattle.moka_cache.specs.Keyed.{Inserts, Gets, Removes, GetsWith, GetsWithIfMade, GetsWithIfNoError}
 use Rattle.moka_segment_laws.proofs.Belonging.{keys_stay}
 use Rattle.moka_segment_laws.proofs.Moving as moving
 

@@ -27,7 +27,7 @@ use Rattle.moka_segment_laws.specs.Moves.{for_all_calls, IsOneMove, AreOneEach, 
 use Rattle.moka_segments.specs.Registering.{AllRegister, Registers, HasNoRoom}
 use Rattle.moka_router.specs.Routing.{Routing, segment_of}
 use Rattle.moka_segments.specs.Segmented.{Segmented, Steps}
-use Rattle.moka_segments.specs.Steps.{Inserts, Gets, Removes, GetsWith, GetsWithIfMade, GetsWithIfNoError}
+use Rattle.moka_cache.specs.Keyed.{Inserts, Gets, Removes, GetsWith, GetsWithIfMade, GetsWithIfNoError}
 use Rattle.moka_segments.specs.Whole.{AllRan, Hides}
 use Rattle.moka_segment_laws.proofs.ForAllCalls.{made_with_ids, made_for_all}
 

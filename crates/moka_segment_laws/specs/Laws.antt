@@ -19,7 +19,7 @@ use Rattle.moka_segments.specs.Keys.{AreInOneSegment, Belongs, InsertsOnly, Keep
 use Rattle.moka_segments.specs.Registering.{AllRegister}
 use Rattle.moka_router.specs.Routing.{Routing, segment_of}
 use Rattle.moka_segments.specs.Segmented.{Segmented, IsAt, Steps}
-use Rattle.moka_segments.specs.Steps.{Inserts, Gets, Removes, GetsWith, GetsWithIfMade, GetsWithIfNoError}
+use Rattle.moka_cache.specs.Keyed.{Inserts, Gets, Removes, GetsWith, GetsWithIfMade, GetsWithIfNoError}
 use Rattle.moka_segments.specs.Whole.{AllRan, Hides}
 
 -- the calls that one segment made, with their replies

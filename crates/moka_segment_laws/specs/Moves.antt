@@ -20,7 +20,7 @@ use Rattle.moka_segment_laws.specs.Laws.{Move, MoveAfterMove, calls_in, replies_
 use Rattle.moka_segments.specs.Registering.{AllRegister}
 use Rattle.moka_router.specs.Routing.{segment_of}
 use Rattle.moka_segments.specs.Segmented.{Segmented, IsAt, Steps}
-use Rattle.moka_segments.specs.Steps.{Inserts, Gets, Removes, GetsWith, GetsWithIfMade, GetsWithIfNoError}
+use Rattle.moka_cache.specs.Keyed.{Inserts, Gets, Removes, GetsWith, GetsWithIfMade, GetsWithIfNoError}
 use Rattle.moka_segments.specs.Whole.{AllRan, Hides}
 
 -- what calls of every kind mean side by side: a listener may hear of clones, and any identifier may be given

@@ -11,7 +11,7 @@ use Rattle.moka_cache.specs.Synchronous.{GetsOrInserts}
 use Rattle.moka_router.specs.Routing.{segment_of}
 use Rattle.moka_segment_laws.specs.Moves.{IsOneMove, MovesBy, for_all_calls}
 use Rattle.moka_segments.specs.Segmented.{Segmented, Steps}
-use Rattle.moka_segments.specs.Steps.{Gets, Inserts}
+use Rattle.moka_cache.specs.Keyed.{Gets, Inserts}
 use Rattle.moka_segments.specs.Whole.{AllRan}
 use Rattle.moka_uses.specs.Made.{plain_meaning}
 

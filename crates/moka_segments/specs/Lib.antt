@@ -1,5 +1,4 @@
 pub mod Segmented
-pub mod Steps
 pub mod Lending
 pub mod Whole
 pub mod Listing

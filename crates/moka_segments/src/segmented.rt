@@ -6,7 +6,7 @@ ghost use Rattle.moka_parts.specs.Records.{record_of_key};
 ghost use Rattle.moka_calls.specs.Synchronous.{meaning_of, removed, invalidated, taken_out};
 ghost use Rattle.moka_router.specs.Routing.{segment_of};
 ghost use Rattle.moka_segments.specs.Segmented.{Holds, HoldsIfThere, IsAt, Steps as StepsIn};
-ghost use Rattle.moka_segments.specs.Steps.{Inserts, Gets, Removes, GetsWith, GetsWithIfMade, GetsWithIfNoError};
+ghost use Rattle.moka_cache.specs.Keyed.{Inserts, Gets, Removes, GetsWith, GetsWithIfMade, GetsWithIfNoError};
 
 use moka_cache::{Cache, GetWithRefused, NotTold};
 use moka_engine::config::DefaultHasher;

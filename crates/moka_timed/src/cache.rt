@@ -1,11 +1,10 @@
 //! A synchronous cache that owns its clock.
-ghost use Rattle.std.specs.Prelude.{◌≡◌, ◌≤◌, true, false, Option, Some, None, Result, IfOk, IfErr, OnErr, is_some, option_copied, unwrap_or, IfSome, option_map};
+ghost use Rattle.std.specs.Prelude.{◌≡◌, ◌≤◌, false, Option, Some, None, Result, IfOk, IfErr, OnErr, option_copied, unwrap_or, IfSome, option_map};
 ghost use Rattle.moka_parts.specs.Calls.{CapacityStep, ContainsStep, InvalidateStep, no_events, only_ids};
-ghost use Rattle.moka_parts.specs.Copies.{IsCopiedAnswer};
 ghost use Rattle.moka_parts.specs.Exact.{IsExact, IsWithin};
 ghost use Rattle.moka_parts.specs.Records.{record_of_key};
 ghost use Rattle.moka_parts.specs.Runs.{Befalls};
-ghost use Rattle.moka_parts.specs.State.{Events, is_disabled, limits_of};
+ghost use Rattle.moka_parts.specs.State.{Events, limits_of};
 ghost use Rattle.moka_parts.specs.Surroundings.{Leads};
 ghost use Rattle.moka_parts.specs.declared.calls.Reply.TheVariants as reply;
 ghost use Rattle.moka_parts.specs.declared.error.InsertRefused.{InsertRefused};
@@ -15,11 +14,10 @@ ghost use Rattle.moka_parts.specs.declared.records.Record.{Record};
 ghost use Rattle.moka_engine.specs.Config.{new_engine};
 ghost use Rattle.moka_parts.specs.Counters.{after_look_up};
 ghost use Rattle.moka_parts.specs.Hashing.{key_hash};
+ghost use Rattle.moka_cache.specs.Keyed.{Gets, Inserts, Removes};
 ghost use Rattle.moka_cache.specs.Saved.{HasOnlyMembers};
-ghost use Rattle.moka_cache.specs.Unsent.{IsThere, ShowsWrites};
 ghost use Rattle.moka_timed.specs.Moments.{AtItsMoment, AtItsOnlyMoment, AtAnyMoment};
-ghost use Rattle.moka_calls.specs.Given.{Sees};
-ghost use Rattle.moka_calls.specs.Synchronous.{fresh, Makes, meaning_of, hears_clones, Just, own_run, InsertsEntry, GetsValue, RemovesEntry, removed, invalidated, taken_out, GetsWith, GetsWithIfMade, GetsWithIfNoError};
+ghost use Rattle.moka_calls.specs.Synchronous.{fresh, Makes, meaning_of, Just, own_run, removed, invalidated, taken_out, GetsWith, GetsWithIfMade, GetsWithIfNoError};
 
 use moka_cache::cache::Cache;
 use moka_cache::error::{GetWithRefused, NotTold};
@@ -153,13 +151,9 @@ impl<
         V: Drop,
         P: Drop,
         ensures made { AtItsMoment C.reads self.old self.new (λ now old clock new clock_after.
-            Makes (meaning_of K.eq L.tells P.says W.weighs C.reads X.created X.read X.updated)
-            (InsertsEntry key (key_hash S.BuildHasher S.Hasher.Hasher old.engine.hasher (K.hash_input key))
-            value now result) old.engine clock new.engine clock_after
-            × IfOk result (λ _. is_disabled old.engine.state.capacity ≡ false
-            → IsThere K.eq new.engine.state key value now)
-            × IfOk result (λ _. is_disabled old.engine.state.capacity ≡ false → ShowsWrites old.engine.state now.0
-            → ContainsStep P.says K.eq new.engine.state key now.0 true)) }
+            Inserts (meaning_of K.eq L.tells P.says W.weighs C.reads X.created X.read X.updated)
+            (λ h k. key_hash S.BuildHasher S.Hasher.Hasher h (K.hash_input k)) key now clock clock_after value result
+            old new) }
         ensures back { IfErr result (λ refused. (refused.key ≡ key) × (refused.value ≡ value)) }
         ensures unchanged { OnErr result (self.new.cache.engine.state ≡ self.old.cache.engine.state) }
         ensures counted { self.new.cache.stats ≡ self.old.cache.stats }
@@ -178,12 +172,9 @@ impl<
         V: Clone + Drop,
         P: Drop,
         ensures made { AtItsMoment C.reads self.old self.new (λ now old clock new clock_after.
-            ((own : Result (Option V) OutOfMemory) × IsCopiedAnswer V.is_clone own result
-            × Makes (meaning_of K.eq L.tells P.says W.weighs C.reads X.created X.read X.updated)
-            (GetsValue key.now (key_hash S.BuildHasher S.Hasher.Hasher old.engine.hasher (K.hash_input key.now))
-            now own) old.engine clock new.engine clock_after)
-            × IfOk result (λ found. ContainsStep P.says K.eq old.engine.state key.now now.0 (is_some found))
-            × IfOk result (Sees K.eq P.says V.is_clone old.engine.state key.now now.0)) }
+            Gets (meaning_of K.eq L.tells P.says W.weighs C.reads X.created X.read X.updated)
+            (λ h k. key_hash S.BuildHasher S.Hasher.Hasher h (K.hash_input k)) key.now now clock clock_after V.is_clone
+            result old new) }
         ensures value { IfOk result (λ found. IfSome found (λ v. (r : Record K V)
             × (record_of_key K.eq self.old.cache.engine.state.records key.now ≡ Some r) × V.is_clone r.value v)) }
         ensures unchanged { OnErr result (self.new.cache.engine.state ≡ self.old.cache.engine.state) }
@@ -203,11 +194,9 @@ impl<
         V: Clone + Drop,
         P: Drop,
         ensures made { AtItsMoment C.reads self.old self.new (λ now old clock new clock_after.
-            (taken : Option (V × Result (Unit {0}) OutOfMemory)) × (result ≡ removed taken)
-            × Makes (meaning_of K.eq (hears_clones K.is_clone V.is_clone L.tells) P.says W.weighs C.reads
-            X.created X.read X.updated)
-            (RemovesEntry key.now (key_hash S.BuildHasher S.Hasher.Hasher old.engine.hasher (K.hash_input key.now))
-            now taken) old.engine clock new.engine clock_after) }
+            Removes (meaning_of K.eq L.tells P.says W.weighs C.reads X.created X.read X.updated)
+            (λ h k. key_hash S.BuildHasher S.Hasher.Hasher h (K.hash_input k)) key.now now clock clock_after K.is_clone
+            V.is_clone (λ taken. result ≡ removed taken) old new) }
         ensures gone { record_of_key K.eq self.new.cache.engine.state.records key.now ≡ None }
         ensures value { taken_out result
             ≡ option_map (λ r. r.value) (record_of_key K.eq self.old.cache.engine.state.records key.now) }
@@ -227,11 +216,9 @@ impl<
         V: Clone + Drop,
         P: Drop,
         ensures made { AtItsMoment C.reads self.old self.new (λ now old clock new clock_after.
-            (taken : Option (V × Result (Unit {0}) OutOfMemory)) × (result ≡ invalidated taken)
-            × Makes (meaning_of K.eq (hears_clones K.is_clone V.is_clone L.tells) P.says W.weighs C.reads
-            X.created X.read X.updated)
-            (RemovesEntry key.now (key_hash S.BuildHasher S.Hasher.Hasher old.engine.hasher (K.hash_input key.now))
-            now taken) old.engine clock new.engine clock_after) }
+            Removes (meaning_of K.eq L.tells P.says W.weighs C.reads X.created X.read X.updated)
+            (λ h k. key_hash S.BuildHasher S.Hasher.Hasher h (K.hash_input k)) key.now now clock clock_after K.is_clone
+            V.is_clone (λ taken. result ≡ invalidated taken) old new) }
         ensures gone { record_of_key K.eq self.new.cache.engine.state.records key.now ≡ None }
         ensures counted { self.new.cache.stats ≡ self.old.cache.stats }
     {

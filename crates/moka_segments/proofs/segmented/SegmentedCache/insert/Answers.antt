@@ -2,6 +2,4 @@ use Rattle.moka_segments.proofs.OneSegment.{steps_in}
 use Rattle.moka_segments.proofs.segmented.SegmentedCache.insert.Goals as goal
 
 pub returns-clause-step : goal.returns-clause-step
-returns-clause-step g c =
-    let e = c.insert.ensures in
-    steps_in c.args.self.now _ _ c.own_segment.result.now c.insert.new.self c.own_segment.ensures.is (record { made = e.made; unchanged = e.unchanged; kept = e.kept; shown = e.shown; counted = e.counted })
+returns-clause-step g c = steps_in c.args.self.now _ _ c.own_segment.result.now c.insert.new.self c.own_segment.ensures.is c.insert.ensures

@@ -2,6 +2,4 @@ use Rattle.moka_segments.proofs.OneSegment.{steps_in}
 use Rattle.moka_segments.proofs.segmented.SegmentedCache.invalidate.Goals as goal
 
 pub returns : goal.returns
-returns g c =
-    let e = c.invalidate.ensures in
-    steps_in c.args.self.now _ _ c.own_segment.result.now c.invalidate.new.self c.own_segment.ensures.is (record { made = e.made; gone = e.gone; counted = e.counted })
+returns g c = steps_in c.args.self.now _ _ c.own_segment.result.now c.invalidate.new.self c.own_segment.ensures.is c.invalidate.ensures

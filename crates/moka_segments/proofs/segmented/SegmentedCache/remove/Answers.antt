@@ -2,9 +2,7 @@ use Rattle.moka_segments.proofs.OneSegment.{steps_in}
 use Rattle.moka_segments.proofs.segmented.SegmentedCache.remove.Goals as goal
 
 pub returns-clause-step : goal.returns-clause-step
-returns-clause-step g c =
-    let e = c.remove.ensures in
-    steps_in c.args.self.now _ _ c.own_segment.result.now c.remove.new.self c.own_segment.ensures.is (record { made = e.made; gone = e.gone; counted = e.counted })
+returns-clause-step g c = steps_in c.args.self.now _ _ c.own_segment.result.now c.remove.new.self c.own_segment.ensures.is c.remove.ensures.step
 
 pub returns-clause-value : goal.returns-clause-value
 returns-clause-value g c = steps_in c.args.self.now _ _ c.own_segment.result.now c.remove.new.self c.own_segment.ensures.is c.remove.ensures.value

@@ -1,24 +1,26 @@
--- What a call by key makes of the segment that the key belongs to: what the synchronous cache's call of that name
--- promises.
-use Rattle.std.specs.Prelude.{◌≡◌, ℕ, true, false, Option, Some, None, Result, IfOk, IfSome, OnErr, is_some}
+-- What a call by key promises of a synchronous cache, whoever makes it: a caller, a cache that owns its clock, or one in
+-- segments.
+use Rattle.std.specs.Prelude.{◌≡◌, ℕ, true, false, Option, Some, None, Result, IfOk, IfErr, IfSome, OnErr, is_some}
 use Rattle.moka_parts.specs.declared.error.InsertRefused.{InsertRefused}
 use Rattle.moka_parts.specs.declared.error.OutOfMemory.{OutOfMemory}
 use Rattle.moka_parts.specs.declared.policy.Instant.{Instant}
 use Rattle.moka_parts.specs.declared.records.Record.{Record}
 use Rattle.moka_parts.specs.Calls.{ContainsStep}
 use Rattle.moka_parts.specs.Copies.{IsCopiedAnswer}
+use Rattle.moka_parts.specs.Counters.{after_look_up}
 use Rattle.moka_parts.specs.Records.{record_of_key}
 use Rattle.moka_parts.specs.State.{Meaning, is_disabled}
 use Rattle.moka_calls.specs.declared.error.GetWithRefused.{GetWithRefused}
-use Rattle.moka_parts.specs.Counters.{after_look_up}
-use Rattle.moka_cache.specs.Unsent.{IsThere, ShowsWrites}
 use Rattle.moka_calls.specs.Given.{Sees}
-use Rattle.moka_calls.specs.Synchronous.{Synchronous, Makes, hears_clones, InsertsEntry, GetsValue, RemovesEntry}
 use Rattle.moka_calls.specs.Synchronous as own
+use Rattle.moka_calls.specs.Synchronous.{Synchronous, Makes, hears_clones, InsertsEntry, GetsValue, RemovesEntry}
+use Rattle.moka_cache.specs.Unsent.{IsThere, ShowsWrites}
 
+-- of this key, which is hashed so, at this moment, with the clock before and after
 module _ {K V S X L P W C : Type 0} (m : Meaning K V X L P W C (Unit {0})) (hash_of : S → K → ℕ) (key : K)
     (now : Instant) (clock clock_after : C) where
-  -- an insert
+  -- a value is put under the key: a refused one comes back with the key, and nothing has changed; else it is the key's,
+  -- and found if nothing hides it
   pub record Inserts (value : V) (result : Result (Unit {0}) (InsertRefused K V))
       (old new : Synchronous K V S X L P W) : Type 0 where
     pub made : Makes m (InsertsEntry key (hash_of old.engine.hasher key) value now result) old.engine
@@ -28,9 +30,10 @@ module _ {K V S X L P W C : Type 0} (m : Meaning K V X L P W C (Unit {0})) (hash
         IsThere m.eq new.engine.state key value now)
     pub shown : IfOk result (λ _. is_disabled old.engine.state.capacity ≡ false → ShowsWrites old.engine.state now.0 →
         ContainsStep m.says m.eq new.engine.state key now.0 true)
+    pub back : IfErr result (λ refused. (refused.key ≡ key) × (refused.value ≡ value))
     pub counted : new.stats ≡ old.stats
 
-  -- a get
+  -- a clone of the key's value is handed out, if the key is there and visible; if it is refused, nothing has changed
   pub record Gets (is_clone : V → V → Type 0) (result : Result (Option V) OutOfMemory)
       (old new : Synchronous K V S X L P W) : Type 0 where
     pub made : (own : Result (Option V) OutOfMemory) × IsCopiedAnswer is_clone own result
@@ -43,7 +46,7 @@ module _ {K V S X L P W C : Type 0} (m : Meaning K V X L P W C (Unit {0})) (hash
     pub unchanged : OnErr result ((new.engine.state ≡ old.engine.state) × (clock_after ≡ clock))
     pub counted : new.stats ≡ after_look_up result old.stats
 
-  -- a removal, of which clones are told
+  -- the key is taken out: the listener is told of clones, and this is the answer for what was taken
   pub record Removes (is_key_clone : K → K → Type 0) (is_clone : V → V → Type 0)
       (Answers : Option (V × Result (Unit {0}) OutOfMemory) → Type 0)
       (old new : Synchronous K V S X L P W) : Type 0 where
@@ -53,13 +56,13 @@ module _ {K V S X L P W C : Type 0} (m : Meaning K V X L P W C (Unit {0})) (hash
     pub gone : record_of_key m.eq new.engine.state.records key ≡ None
     pub counted : new.stats ≡ old.stats
 
-  -- a get, and where it misses an insert of the value that the maker made
+  -- a get, and if it misses an insert of the value that the maker made
   abbrev pub GetsWith : (V → V → Type 0) → (V → Type 0) → Result V (GetWithRefused K V) → Synchronous K V S X L P W →
       Synchronous K V S X L P W → Type 0
   GetsWith is_clone Made result old new =
       own.GetsWith m is_clone key (hash_of old.engine.hasher key) now old clock new clock_after Made result
 
-  -- the same where the maker may decline
+  -- the same, if the maker may decline
   abbrev pub GetsWithIfMade : (V → V → Type 0) → (Option V → Type 0) → Result (Option V) (GetWithRefused K V) →
       Synchronous K V S X L P W → Synchronous K V S X L P W → Type 0
   GetsWithIfMade is_clone Made result old new =
