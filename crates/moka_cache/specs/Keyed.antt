@@ -1,6 +1,7 @@
--- What a call by key promises of a synchronous cache, whoever makes it: a caller, a cache that owns its clock, or one in
--- segments.
-use Rattle.std.specs.Prelude.{◌≡◌, ℕ, true, false, Option, Some, None, Result, IfOk, IfErr, IfSome, OnErr, is_some}
+-- What a call by key promises of a synchronous cache, whoever makes it: a caller, a cache with a clock of its own, or one
+-- in segments.
+use Rattle.std.specs.Prelude.{◌≡◌, ℕ, Bool, [], true, false, Option, Some, None, Result, IfOk, IfErr, IfSome, OnErr}
+use Rattle.std.specs.Prelude.{is_some}
 use Rattle.moka_parts.specs.declared.error.InsertRefused.{InsertRefused}
 use Rattle.moka_parts.specs.declared.error.OutOfMemory.{OutOfMemory}
 use Rattle.moka_parts.specs.declared.policy.Instant.{Instant}
@@ -8,12 +9,13 @@ use Rattle.moka_parts.specs.declared.records.Record.{Record}
 use Rattle.moka_parts.specs.Calls.{ContainsStep}
 use Rattle.moka_parts.specs.Copies.{IsCopiedAnswer}
 use Rattle.moka_parts.specs.Counters.{after_look_up}
+use Rattle.moka_parts.specs.KeyTests.{ContainsByStep, record_by}
 use Rattle.moka_parts.specs.Records.{record_of_key}
 use Rattle.moka_parts.specs.State.{Meaning, is_disabled}
 use Rattle.moka_calls.specs.declared.error.GetWithRefused.{GetWithRefused}
 use Rattle.moka_calls.specs.Given.{Sees}
 use Rattle.moka_calls.specs.Synchronous as own
-use Rattle.moka_calls.specs.Synchronous.{Synchronous, Makes, hears_clones, InsertsEntry, GetsValue, RemovesEntry}
+use Rattle.moka_calls.specs.Synchronous.{Synchronous, Made, Makes, hears_clones, InsertsEntry, GetsValue, RemovesEntry}
 use Rattle.moka_cache.specs.Unsent.{IsThere, ShowsWrites}
 
 -- of this key, which is hashed so, at this moment, with the clock before and after
@@ -73,3 +75,41 @@ module _ {K V S X L P W C : Type 0} (m : Meaning K V X L P W C (Unit {0})) (hash
       Result (Result V E) (GetWithRefused K V) → Synchronous K V S X L P W → Synchronous K V S X L P W → Type 0
   GetsWithIfNoError is_clone Made result old new =
       own.GetsWithIfNoError m is_clone key (hash_of old.engine.hasher key) now old clock new clock_after Made result
+
+-- of the keys that pass this test, all of which are equal and have this hash, at this moment, with the clock before and
+-- after
+module _ {K V S X L P W C : Type 0} (m : Meaning K V X L P W C (Unit {0})) (passes : K → Bool) (hash : ℕ)
+    (now : Instant) (clock clock_after : C) where
+  -- a clone of the value of the key that passes is handed out; if no key of the cache does, it is the get of any other
+  -- that is not there
+  pub record GetsBy (is_clone : V → V → Type 0) (result : Result (Option V) OutOfMemory)
+      (old new : Synchronous K V S X L P W) : Type 0 where
+    pub made : (key : K) → passes key ≡ true → (own : Result (Option V) OutOfMemory)
+        × IsCopiedAnswer is_clone own result
+        × Makes m (GetsValue key hash now own) old.engine clock new.engine clock_after
+    pub missed : record_by passes old.engine.state.records ≡ None → (key : K)
+        → record_of_key m.eq old.engine.state.records key ≡ None → (own : Result (Option V) OutOfMemory)
+        × IsCopiedAnswer is_clone own result
+        × Makes m (GetsValue key hash now own) old.engine clock new.engine clock_after
+    pub value : IfOk result (λ found. IfSome found (λ v. (r : Record K V)
+        × (record_by passes old.engine.state.records ≡ Some r) × is_clone r.value v))
+    pub sees : (key : K) → passes key ≡ true → IfOk result (Sees m.eq m.says is_clone old.engine.state key now.0)
+    pub shown : IfOk result (λ found. ContainsByStep m.says passes old.engine.state now.0 (is_some found))
+    pub found : (key : K) → passes key ≡ true → ContainsStep m.says m.eq old.engine.state key now.0 true
+        → IfOk result (λ found. is_some found ≡ true)
+    pub unchanged : OnErr result ((new.engine.state ≡ old.engine.state) × (clock_after ≡ clock))
+    pub hasher : new.engine.hasher ≡ old.engine.hasher
+    pub counted : new.stats ≡ after_look_up result old.stats
+
+  -- the key that passes is taken out; if no key of the cache does, no call is made
+  pub record RemovesBy (is_key_clone : K → K → Type 0) (is_clone : V → V → Type 0)
+      (Answers : Option (V × Result (Unit {0}) OutOfMemory) → Type 0)
+      (old new : Synchronous K V S X L P W) : Type 0 where
+    pub made : (key : K) → passes key ≡ true → (taken : Option (V × Result (Unit {0}) OutOfMemory)) × Answers taken
+        × Makes (record m { tells = hears_clones is_key_clone is_clone m.tells })
+        (RemovesEntry key hash now taken) old.engine clock new.engine clock_after
+    pub none : record_by passes old.engine.state.records ≡ None → Answers None
+        × Made m [] [] old.engine clock new.engine clock_after
+    pub gone : (key : K) → passes key ≡ true → record_of_key m.eq new.engine.state.records key ≡ None
+    pub hasher : new.engine.hasher ≡ old.engine.hasher
+    pub counted : new.stats ≡ old.stats

@@ -1,16 +1,15 @@
 //! Look-ups and removals by a test of the key in place of a key.
-ghost use Rattle.std.specs.Prelude.{◌≡◌, [], true, Option, Some, None, Result, Ok, IfOk, IfSome, OnErr, is_some, option_map};
+ghost use Rattle.std.specs.Prelude.{◌≡◌, true, Option, Some, None, Result, IfOk, IfSome, OnErr, option_map};
 ghost use Rattle.moka_parts.specs.Calls.{ContainsStep};
-ghost use Rattle.moka_parts.specs.Copies.{IsCopiedAnswer};
 ghost use Rattle.moka_parts.specs.KeyTests.{ContainsByStep, record_by};
 ghost use Rattle.moka_parts.specs.Records.{record_of_key};
 ghost use Rattle.moka_parts.specs.declared.error.OutOfMemory.{OutOfMemory};
 ghost use Rattle.moka_parts.specs.declared.records.Record.{Record};
 ghost use Rattle.moka_parts.specs.Counters.{after_look_up};
 ghost use Rattle.moka_parts.specs.Hashing.{key_hash};
+ghost use Rattle.moka_cache.specs.Keyed.{GetsBy, RemovesBy};
 ghost use Rattle.moka_timed.specs.Moments.{AtItsMoment, AtItsOnlyMoment};
-ghost use Rattle.moka_calls.specs.Given.{Sees};
-ghost use Rattle.moka_calls.specs.Synchronous.{GetsValue, Made, Makes, RemovesEntry, hears_clones, invalidated, meaning_of, removed, taken_out};
+ghost use Rattle.moka_calls.specs.Synchronous.{invalidated, meaning_of, removed, taken_out};
 
 use crate::cache::TimedCache;
 use moka_cache::error::NotTold;
@@ -65,19 +64,8 @@ impl<
         requires own { (k : K) → T.passes test.now k ≡ true
             → hash ≡ key_hash S.BuildHasher S.Hasher.Hasher self.old.cache.engine.hasher (K.hash_input k) }
         ensures made { AtItsMoment C.reads self.old self.new (λ now old clock new clock_after.
-            ((key : K) → T.passes test.now key ≡ true → (own : Result (Option V) OutOfMemory)
-            × IsCopiedAnswer V.is_clone own result
-            × Makes (meaning_of K.eq L.tells P.says W.weighs C.reads X.created X.read X.updated)
-            (GetsValue key hash now own) old.engine clock new.engine clock_after)
-            × IfOk result (λ found. ContainsByStep P.says (T.passes test.now) old.engine.state now.0 (is_some found))
-            × ((key : K) → T.passes test.now key ≡ true
-            → IfOk result (Sees K.eq P.says V.is_clone old.engine.state key now.0))) }
-        ensures missed { record_by (T.passes test.now) self.old.cache.engine.state.records ≡ None → (key : K)
-            → record_of_key K.eq self.old.cache.engine.state.records key ≡ None
-            → AtItsMoment C.reads self.old self.new (λ now old clock new clock_after.
-            (own : Result (Option V) OutOfMemory) × IsCopiedAnswer V.is_clone own result
-            × Makes (meaning_of K.eq L.tells P.says W.weighs C.reads X.created X.read X.updated)
-            (GetsValue key hash now own) old.engine clock new.engine clock_after) }
+            GetsBy (meaning_of K.eq L.tells P.says W.weighs C.reads X.created X.read X.updated)
+            (T.passes test.now) hash now clock clock_after V.is_clone result old new) }
         ensures value { IfOk result (λ found. IfSome found (λ v. (r : Record K V)
             × (record_by (T.passes test.now) self.old.cache.engine.state.records ≡ Some r)
             × V.is_clone r.value v)) }
@@ -89,8 +77,8 @@ impl<
         self.cache.get_by(test, hash, now, &mut self.clock)
     }
 
-    /// As `remove` of the key that passes; if no key of the cache does, nothing changes. `hash` is that of the keys that
-    /// pass, by the cache's hasher.
+    /// As `remove` of the key that passes; if no key of the cache does, nothing changes. `hash` is that of the keys
+    /// that pass, by the cache's hasher.
     ///
     /// # Errors
     /// As `remove`.
@@ -102,14 +90,9 @@ impl<
         requires own { (k : K) → T.passes test.now k ≡ true
             → hash ≡ key_hash S.BuildHasher S.Hasher.Hasher self.old.cache.engine.hasher (K.hash_input k) }
         ensures made { AtItsMoment C.reads self.old self.new (λ now old clock new clock_after.
-            (key : K) → T.passes test.now key ≡ true → (taken : Option (V × Result (Unit {0}) OutOfMemory))
-            × (result ≡ removed taken)
-            × Makes (meaning_of K.eq (hears_clones K.is_clone V.is_clone L.tells) P.says W.weighs C.reads
-            X.created X.read X.updated) (RemovesEntry key hash now taken) old.engine clock new.engine clock_after) }
-        ensures none { record_by (T.passes test.now) self.old.cache.engine.state.records ≡ None
-            → AtItsMoment C.reads self.old self.new (λ now old clock new clock_after. (result ≡ Ok None)
-            × Made (meaning_of K.eq L.tells P.says W.weighs C.reads X.created X.read X.updated) [] []
-            old.engine clock new.engine clock_after) }
+            RemovesBy (meaning_of K.eq L.tells P.says W.weighs C.reads X.created X.read X.updated)
+            (T.passes test.now) hash now clock clock_after K.is_clone V.is_clone (λ taken. result ≡ removed taken)
+            old new) }
         ensures gone { (key : K) → T.passes test.now key ≡ true
             → record_of_key K.eq self.new.cache.engine.state.records key ≡ None }
         ensures value { (key : K) → T.passes test.now key ≡ true → taken_out result
@@ -134,14 +117,9 @@ impl<
         requires own { (k : K) → T.passes test.now k ≡ true
             → hash ≡ key_hash S.BuildHasher S.Hasher.Hasher self.old.cache.engine.hasher (K.hash_input k) }
         ensures made { AtItsMoment C.reads self.old self.new (λ now old clock new clock_after.
-            (key : K) → T.passes test.now key ≡ true → (taken : Option (V × Result (Unit {0}) OutOfMemory))
-            × (result ≡ invalidated taken)
-            × Makes (meaning_of K.eq (hears_clones K.is_clone V.is_clone L.tells) P.says W.weighs C.reads
-            X.created X.read X.updated) (RemovesEntry key hash now taken) old.engine clock new.engine clock_after) }
-        ensures none { record_by (T.passes test.now) self.old.cache.engine.state.records ≡ None
-            → AtItsMoment C.reads self.old self.new (λ now old clock new clock_after. (result ≡ Ok tt)
-            × Made (meaning_of K.eq L.tells P.says W.weighs C.reads X.created X.read X.updated) [] []
-            old.engine clock new.engine clock_after) }
+            RemovesBy (meaning_of K.eq L.tells P.says W.weighs C.reads X.created X.read X.updated)
+            (T.passes test.now) hash now clock clock_after K.is_clone V.is_clone (λ taken. result ≡ invalidated taken)
+            old new) }
         ensures gone { (key : K) → T.passes test.now key ≡ true
             → record_of_key K.eq self.new.cache.engine.state.records key ≡ None }
         ensures hasher { self.new.cache.engine.hasher ≡ self.old.cache.engine.hasher }

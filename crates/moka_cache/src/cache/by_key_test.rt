@@ -1,15 +1,12 @@
 //! Look-ups and removals by a test of the key in place of a key.
-ghost use Rattle.std.specs.Prelude.{◌≡◌, [], true, Option, Some, None, Result, Ok, IfOk, IfSome, OnErr, is_some, option_map};
+ghost use Rattle.std.specs.Prelude.{◌≡◌, [], true, Option, Some, None, Result, option_map};
 ghost use Rattle.moka_parts.specs.Calls.{ContainsStep};
-ghost use Rattle.moka_parts.specs.Copies.{IsCopiedAnswer};
 ghost use Rattle.moka_parts.specs.KeyTests.{ContainsByStep, record_by};
 ghost use Rattle.moka_parts.specs.Records.{record_of_key};
 ghost use Rattle.moka_parts.specs.declared.error.OutOfMemory.{OutOfMemory};
-ghost use Rattle.moka_parts.specs.declared.records.Record.{Record};
-ghost use Rattle.moka_parts.specs.Counters.{after_look_up};
 ghost use Rattle.moka_parts.specs.Hashing.{key_hash};
-ghost use Rattle.moka_calls.specs.Given.{Sees};
-ghost use Rattle.moka_calls.specs.Synchronous.{GetsValue, Made, Makes, RemovesEntry, hears_clones, invalidated, meaning_of, removed, taken_out};
+ghost use Rattle.moka_cache.specs.Keyed.{GetsBy, RemovesBy};
+ghost use Rattle.moka_calls.specs.Synchronous.{Made, Makes, RemovesEntry, hears_clones, invalidated, meaning_of, removed, taken_out};
 
 use super::{Cache, invalidated, removed, value_of};
 use moka_calls::error::NotTold;
@@ -67,27 +64,8 @@ impl<
         P: Drop,
         requires own { (k : K) → T.passes test.now k ≡ true
             → hash ≡ key_hash S.BuildHasher S.Hasher.Hasher self.old.engine.hasher (K.hash_input k) }
-        ensures made { (key : K) → T.passes test.now key ≡ true → (own : Result (Option V) OutOfMemory)
-            × IsCopiedAnswer V.is_clone own result
-            × Makes (meaning_of K.eq L.tells P.says W.weighs C.reads X.created X.read X.updated)
-            (GetsValue key hash now own) self.old.engine clock.old self.new.engine clock.new }
-        ensures missed { record_by (T.passes test.now) self.old.engine.state.records ≡ None → (key : K)
-            → record_of_key K.eq self.old.engine.state.records key ≡ None → (own : Result (Option V) OutOfMemory)
-            × IsCopiedAnswer V.is_clone own result
-            × Makes (meaning_of K.eq L.tells P.says W.weighs C.reads X.created X.read X.updated)
-            (GetsValue key hash now own) self.old.engine clock.old self.new.engine clock.new }
-        ensures value { IfOk result (λ found. IfSome found (λ v. (r : Record K V)
-            × (record_by (T.passes test.now) self.old.engine.state.records ≡ Some r) × V.is_clone r.value v)) }
-        ensures sees { (key : K) → T.passes test.now key ≡ true
-            → IfOk result (Sees K.eq P.says V.is_clone self.old.engine.state key now.0) }
-        ensures shown { IfOk result
-            (λ found. ContainsByStep P.says (T.passes test.now) self.old.engine.state now.0 (is_some found)) }
-        ensures found { (key : K) → T.passes test.now key ≡ true
-            → ContainsStep P.says K.eq self.old.engine.state key now.0 true
-            → IfOk result (λ found. is_some found ≡ true) }
-        ensures unchanged { OnErr result ((self.new.engine.state ≡ self.old.engine.state) × (clock.new ≡ clock.old)) }
-        ensures hasher { self.new.engine.hasher ≡ self.old.engine.hasher }
-        ensures counted { self.new.stats ≡ after_look_up result self.old.stats }
+        ensures { GetsBy (meaning_of K.eq L.tells P.says W.weighs C.reads X.created X.read X.updated)
+            (T.passes test.now) hash now clock.old clock.new V.is_clone result self.old self.new }
     {
         self.engine.invariant_holds();
         let entry = self.engine.get_by(test, hash, false, now, clock);
@@ -96,8 +74,8 @@ impl<
         found
     }
 
-    /// As `remove` of the key that passes; if no key of the cache does, nothing changes. `hash` is that of the keys that
-    /// pass, by the cache's hasher.
+    /// As `remove` of the key that passes; if no key of the cache does, nothing changes. `hash` is that of the keys
+    /// that pass, by the cache's hasher.
     ///
     /// # Errors
     /// As `remove`.
@@ -114,20 +92,11 @@ impl<
         P: Drop,
         requires own { (k : K) → T.passes test.now k ≡ true
             → hash ≡ key_hash S.BuildHasher S.Hasher.Hasher self.old.engine.hasher (K.hash_input k) }
-        ensures made { (key : K) → T.passes test.now key ≡ true → (taken : Option (V × Result (Unit {0}) OutOfMemory))
-            × (result ≡ removed taken)
-            × Makes (meaning_of K.eq (hears_clones K.is_clone V.is_clone L.tells) P.says W.weighs C.reads
-            X.created X.read X.updated)
-            (RemovesEntry key hash now taken) self.old.engine clock.old self.new.engine clock.new }
-        ensures none { record_by (T.passes test.now) self.old.engine.state.records ≡ None → (result ≡ Ok None)
-            × Made (meaning_of K.eq L.tells P.says W.weighs C.reads X.created X.read X.updated) [] []
-            self.old.engine clock.old self.new.engine clock.new }
-        ensures gone { (key : K) → T.passes test.now key ≡ true
-            → record_of_key K.eq self.new.engine.state.records key ≡ None }
+        ensures step { RemovesBy (meaning_of K.eq L.tells P.says W.weighs C.reads X.created X.read X.updated)
+            (T.passes test.now) hash now clock.old clock.new K.is_clone V.is_clone (λ taken. result ≡ removed taken)
+            self.old self.new }
         ensures value { (key : K) → T.passes test.now key ≡ true → taken_out result
             ≡ option_map (λ r. r.value) (record_of_key K.eq self.old.engine.state.records key) }
-        ensures hasher { self.new.engine.hasher ≡ self.old.engine.hasher }
-        ensures counted { self.new.stats ≡ self.old.stats }
     {
         removed(self.take_by(test, hash, now, clock))
     }
@@ -150,18 +119,9 @@ impl<
         P: Drop,
         requires own { (k : K) → T.passes test.now k ≡ true
             → hash ≡ key_hash S.BuildHasher S.Hasher.Hasher self.old.engine.hasher (K.hash_input k) }
-        ensures made { (key : K) → T.passes test.now key ≡ true → (taken : Option (V × Result (Unit {0}) OutOfMemory))
-            × (result ≡ invalidated taken)
-            × Makes (meaning_of K.eq (hears_clones K.is_clone V.is_clone L.tells) P.says W.weighs C.reads
-            X.created X.read X.updated)
-            (RemovesEntry key hash now taken) self.old.engine clock.old self.new.engine clock.new }
-        ensures none { record_by (T.passes test.now) self.old.engine.state.records ≡ None → (result ≡ Ok tt)
-            × Made (meaning_of K.eq L.tells P.says W.weighs C.reads X.created X.read X.updated) [] []
-            self.old.engine clock.old self.new.engine clock.new }
-        ensures gone { (key : K) → T.passes test.now key ≡ true
-            → record_of_key K.eq self.new.engine.state.records key ≡ None }
-        ensures hasher { self.new.engine.hasher ≡ self.old.engine.hasher }
-        ensures counted { self.new.stats ≡ self.old.stats }
+        ensures { RemovesBy (meaning_of K.eq L.tells P.says W.weighs C.reads X.created X.read X.updated)
+            (T.passes test.now) hash now clock.old clock.new K.is_clone V.is_clone (λ taken. result ≡ invalidated taken)
+            self.old self.new }
     {
         invalidated(self.take_by(test, hash, now, clock))
     }

@@ -49,8 +49,8 @@ impl<
         self.cache.get_by(test, hash, now, &mut self.clock)
     }
 
-    /// As `remove` of the key that passes; if no key of the cache does, nothing changes. `hash` is that of the keys that
-    /// pass, by the cache's hasher.
+    /// As `remove` of the key that passes; if no key of the cache does, nothing changes. `hash` is that of the keys
+    /// that pass, by the cache's hasher.
     ///
     /// # Errors
     /// As `remove`.

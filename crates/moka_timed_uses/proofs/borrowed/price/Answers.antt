@@ -30,11 +30,11 @@ returns-clause-value g c = named c.args.prices.now.cache.engine.state c.args.nam
 
 pub returns-clause-found : goal.returns-clause-found
 returns-clause-found g c =
-    let (now, read, told, (made, shown, sees)) = c.get_by.ensures.made in
+    let (now, read, told, got) = c.get_by.ensures.made in
     let s = c.args.prices.now.cache.engine.state in (
       now,
       read,
       told,
-      if_ok (λ found. IsShown (λ _ _ _ answer. answer ≡ false) s (record_by (has_text c.args.name.now) s.records) now.0 (is_some found)) (λ found. IsFoundAt s c.args.name.now now.0 (is_some found)) (λ found shown. found_at s c.args.name.now (λ _ _ _ answer. answer ≡ false) now.0 (is_some found) shown) c.get_by.result shown,
-      looked_up_by (plain_meaning string_eq g.C.Clock.reads) c.args.name.now _ now c.args.prices.now.cache.engine read c.get_by.new.self.cache.engine c.get_by.new.self.clock c.get_by.result made,
+      if_ok (λ found. IsShown (λ _ _ _ answer. answer ≡ false) s (record_by (has_text c.args.name.now) s.records) now.0 (is_some found)) (λ found. IsFoundAt s c.args.name.now now.0 (is_some found)) (λ found shown. found_at s c.args.name.now (λ _ _ _ answer. answer ≡ false) now.0 (is_some found) shown) c.get_by.result got.shown,
+      looked_up_by (plain_meaning string_eq g.C.Clock.reads) c.args.name.now _ now c.args.prices.now.cache.engine read c.get_by.new.self.cache.engine c.get_by.new.self.clock c.get_by.result got.made,
     )

@@ -57,8 +57,8 @@ impl<
         found
     }
 
-    /// As `remove` of the key that passes; if no key of the cache does, nothing changes. `hash` is that of the keys that
-    /// pass, by the cache's hasher.
+    /// As `remove` of the key that passes; if no key of the cache does, nothing changes. `hash` is that of the keys
+    /// that pass, by the cache's hasher.
     ///
     /// # Errors
     /// As `remove`.

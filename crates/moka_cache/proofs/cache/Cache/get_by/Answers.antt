@@ -1,5 +1,5 @@
-use Rattle.std.proofs.Common.{◌≡◌, ◌∙◌, sym, subst, true, false, is_some, Some}
-use Rattle.std.specs.Prelude.{IfSome}
+use Rattle.std.proofs.Common.{◌≡◌, ◌∙◌, ap, sym, subst, true, false, is_some, Some}
+use Rattle.std.specs.Prelude.{IfOk, IfSome}
 use Rattle.moka_parts.specs.declared.records.Record.{Record}
 use Rattle.moka_parts.specs.KeyTests.{ContainsByStep, record_by}
 use Rattle.moka_parts.specs.Visibility.{IsShown}
@@ -19,49 +19,27 @@ invariant_of-self g c =
     let s = c.self.inside.engine.state in
     (gets_alike (ListedRun g.P.PredicateFn.says g.X.Expiry.read c.self.inside.engine.write_list c.get_by-entry.new.self.write_list) (listed_run_alike g.P.PredicateFn.says g.X.Expiry.read c.self.inside.engine.write_list c.get_by-entry.new.self.write_list) g.P.PredicateFn.says g.X.Expiry.read s (record_by (g.T.KeyTest.passes c.args.test.now) s.records) c.args.hash false false c.args.now.0 gets.0 gets.1.0 c.get_by-entry.new.self.state gets.1.1).0.outstanding ∙ c.self.invariant
 
-pub returns-clause-made : goal.returns-clause-made
-returns-clause-made g c =
-    let gets = c.get_by-entry.ensures in
-    let as_key = got_as_key g.K.PartialEq.eq (g.T.KeyTest.passes c.args.test.now) (g.met.T.KeyTest.one_key c.args.test.now) c.self.inside.engine.state g.P.PredicateFn.says g.X.Expiry.read (ListedRun g.P.PredicateFn.says g.X.Expiry.read c.self.inside.engine.write_list c.get_by-entry.new.self.write_list) c.args.hash c.args.now.0 gets.0 gets.1.0 c.get_by-entry.new.self.state gets.1.1 in
-    rw (← c.self.view_is, c.value_of-found.ensures) (λ key passing. (value_found gets.0, value_copied g.K.Clone.is_clone g.V.Clone.is_clone gets.0 c.get_by-entry.result gets.2, got _ key c.args.hash c.args.now c.self.inside.engine c.get_by-entry.new.self c.args.clock.now c.get_by-entry.new.clock gets.0 gets.1.0 (as_key key passing) gets.1.2 gets.1.3))
-
-pub returns-clause-missed : goal.returns-clause-missed
-returns-clause-missed g c =
-    let gets = c.get_by-entry.ensures in
-    let as_none = got_none g.K.PartialEq.eq (g.T.KeyTest.passes c.args.test.now) (g.met.T.KeyTest.one_key c.args.test.now) c.self.inside.engine.state g.P.PredicateFn.says g.X.Expiry.read (ListedRun g.P.PredicateFn.says g.X.Expiry.read c.self.inside.engine.write_list c.get_by-entry.new.self.write_list) c.args.hash c.args.now.0 gets.0 gets.1.0 c.get_by-entry.new.self.state gets.1.1 in
-    rw (← c.self.view_is, c.value_of-found.ensures) (λ none key absent. (value_found gets.0, value_copied g.K.Clone.is_clone g.V.Clone.is_clone gets.0 c.get_by-entry.result gets.2, got _ key c.args.hash c.args.now c.self.inside.engine c.get_by-entry.new.self c.args.clock.now c.get_by-entry.new.clock gets.0 gets.1.0 (as_none key none absent) gets.1.2 gets.1.3))
-
-pub returns-clause-value : goal.returns-clause-value
-returns-clause-value g c =
-    let s = c.self.inside.engine.state in
-    let gets = c.get_by-entry.ensures in
-    let none_kept = none_passes g.K.PartialEq.eq (g.T.KeyTest.passes c.args.test.now) s c.invariant_holds.ensures.valid.numbered in
-    rw (← c.self.view_is, c.value_of-found.ensures) (handed_out g.P.PredicateFn.says g.X.Expiry.read (ListedRun g.P.PredicateFn.says g.X.Expiry.read c.self.inside.engine.write_list c.get_by-entry.new.self.write_list) g.K.Clone.is_clone g.V.Clone.is_clone s (record_by (g.T.KeyTest.passes c.args.test.now) s.records) none_kept c.args.hash c.args.now.0 gets.0 c.get_by-entry.result gets.1.0 c.get_by-entry.new.self.state gets.1.1 gets.2
-    (λ x. IfSome x (λ v. (r : Record g.row.K.Denot g.row.V.Denot) × (record_by (g.T.KeyTest.passes c.args.test.now) s.records ≡ Some r) × g.V.Clone.is_clone r.value v)) (λ r v there visible cloned. (r, there, cloned)) (λ hidden. tt))
-
-pub returns-clause-sees : goal.returns-clause-sees
-returns-clause-sees g c =
+pub returns : goal.returns
+returns g c =
     let s = c.self.inside.engine.state in
     let gets = c.get_by-entry.ensures in
     let as_key = got_as_key g.K.PartialEq.eq (g.T.KeyTest.passes c.args.test.now) (g.met.T.KeyTest.one_key c.args.test.now) s g.P.PredicateFn.says g.X.Expiry.read (ListedRun g.P.PredicateFn.says g.X.Expiry.read c.self.inside.engine.write_list c.get_by-entry.new.self.write_list) c.args.hash c.args.now.0 gets.0 gets.1.0 c.get_by-entry.new.self.state gets.1.1 in
-    rw (← c.self.view_is, c.value_of-found.ensures) (λ key passing. handed_out g.P.PredicateFn.says g.X.Expiry.read (ListedRun g.P.PredicateFn.says g.X.Expiry.read c.self.inside.engine.write_list c.get_by-entry.new.self.write_list) g.K.Clone.is_clone g.V.Clone.is_clone s (record_of_key g.K.PartialEq.eq s.records key) (none_of_key g.K.PartialEq.eq key s c.invariant_holds.ensures.valid.numbered) c.args.hash c.args.now.0 gets.0 c.get_by-entry.result gets.1.0 c.get_by-entry.new.self.state (as_key key passing) gets.2
-    (Sees g.K.PartialEq.eq g.P.PredicateFn.says g.V.Clone.is_clone s key c.args.now.0) (λ r v there visible cloned. (r, there, visible, cloned)) (λ hidden. hidden))
-
-pub returns-clause-found : goal.returns-clause-found
-returns-clause-found g c = λ key passing. seen_found g.K.PartialEq.eq g.P.PredicateFn.says g.V.Clone.is_clone c.args.self.now.engine.state key c.args.now.0 c.value_of-found.result (returns-clause-sees g c key passing)
-
-pub returns-clause-shown : goal.returns-clause-shown
-returns-clause-shown g c =
-    let s = c.self.inside.engine.state in
-    let gets = c.get_by-entry.ensures in
+    let as_none = got_none g.K.PartialEq.eq (g.T.KeyTest.passes c.args.test.now) (g.met.T.KeyTest.one_key c.args.test.now) s g.P.PredicateFn.says g.X.Expiry.read (ListedRun g.P.PredicateFn.says g.X.Expiry.read c.self.inside.engine.write_list c.get_by-entry.new.self.write_list) c.args.hash c.args.now.0 gets.0 gets.1.0 c.get_by-entry.new.self.state gets.1.1 in
     let none_kept = none_passes g.K.PartialEq.eq (g.T.KeyTest.passes c.args.test.now) s c.invariant_holds.ensures.valid.numbered in
-    rw (← c.self.view_is, c.value_of-found.ensures) (handed_out g.P.PredicateFn.says g.X.Expiry.read (ListedRun g.P.PredicateFn.says g.X.Expiry.read c.self.inside.engine.write_list c.get_by-entry.new.self.write_list) g.K.Clone.is_clone g.V.Clone.is_clone s (record_by (g.T.KeyTest.passes c.args.test.now) s.records) none_kept c.args.hash c.args.now.0 gets.0 c.get_by-entry.result gets.1.0 c.get_by-entry.new.self.state gets.1.1 gets.2
-    (λ x. ContainsByStep g.P.PredicateFn.says (g.T.KeyTest.passes c.args.test.now) s c.args.now.0 (is_some x)) (λ r v there visible cloned. subst (λ o. IsShown g.P.PredicateFn.says s o c.args.now.0 true) (sym there) visible) (λ hidden. hidden))
-
-pub returns-clause-unchanged : goal.returns-clause-unchanged
-returns-clause-unchanged g c =
-    let s = c.self.inside.engine.state in
-    let gets = c.get_by-entry.ensures in
-    let none_kept = none_passes g.K.PartialEq.eq (g.T.KeyTest.passes c.args.test.now) s c.invariant_holds.ensures.valid.numbered in
-    rw (← c.self.view_is, c.value_of-found.ensures) (unchanged_when_refused g.P.PredicateFn.says g.X.Expiry.read (ListedRun g.P.PredicateFn.says g.X.Expiry.read c.self.inside.engine.write_list c.get_by-entry.new.self.write_list) g.K.Clone.is_clone g.V.Clone.is_clone s (record_by (g.T.KeyTest.passes c.args.test.now) s.records) none_kept c.args.hash c.args.now.0 gets.0 c.get_by-entry.result gets.1.0 c.get_by-entry.new.self.state gets.1.1 gets.2
-    g.C.Clock.reads c.args.clock.now c.get_by-entry.new.clock gets.1.3)
+    let sees : (key : g.row.K.Denot) → g.T.KeyTest.passes c.args.test.now key ≡ true → IfOk (value_found c.get_by-entry.result) (Sees g.K.PartialEq.eq g.P.PredicateFn.says g.V.Clone.is_clone s key c.args.now.0) =
+    λ key passing. handed_out g.P.PredicateFn.says g.X.Expiry.read (ListedRun g.P.PredicateFn.says g.X.Expiry.read c.self.inside.engine.write_list c.get_by-entry.new.self.write_list) g.K.Clone.is_clone g.V.Clone.is_clone s (record_of_key g.K.PartialEq.eq s.records key) (none_of_key g.K.PartialEq.eq key s c.invariant_holds.ensures.valid.numbered) c.args.hash c.args.now.0 gets.0 c.get_by-entry.result gets.1.0 c.get_by-entry.new.self.state (as_key key passing) gets.2
+    (Sees g.K.PartialEq.eq g.P.PredicateFn.says g.V.Clone.is_clone s key c.args.now.0) (λ r v there visible cloned. (r, there, visible, cloned)) (λ hidden. hidden) in
+    rw (← c.self.view_is, c.value_of-found.ensures) (record {
+      made = λ key passing. (value_found gets.0, value_copied g.K.Clone.is_clone g.V.Clone.is_clone gets.0 c.get_by-entry.result gets.2, got _ key c.args.hash c.args.now c.self.inside.engine c.get_by-entry.new.self c.args.clock.now c.get_by-entry.new.clock gets.0 gets.1.0 (as_key key passing) gets.1.2 gets.1.3);
+      missed = λ none key absent. (value_found gets.0, value_copied g.K.Clone.is_clone g.V.Clone.is_clone gets.0 c.get_by-entry.result gets.2, got _ key c.args.hash c.args.now c.self.inside.engine c.get_by-entry.new.self c.args.clock.now c.get_by-entry.new.clock gets.0 gets.1.0 (as_none key none absent) gets.1.2 gets.1.3);
+      value = handed_out g.P.PredicateFn.says g.X.Expiry.read (ListedRun g.P.PredicateFn.says g.X.Expiry.read c.self.inside.engine.write_list c.get_by-entry.new.self.write_list) g.K.Clone.is_clone g.V.Clone.is_clone s (record_by (g.T.KeyTest.passes c.args.test.now) s.records) none_kept c.args.hash c.args.now.0 gets.0 c.get_by-entry.result gets.1.0 c.get_by-entry.new.self.state gets.1.1 gets.2
+          (λ x. IfSome x (λ v. (r : Record g.row.K.Denot g.row.V.Denot) × (record_by (g.T.KeyTest.passes c.args.test.now) s.records ≡ Some r) × g.V.Clone.is_clone r.value v)) (λ r v there visible cloned. (r, there, cloned)) (λ hidden. tt);
+      sees = sees;
+      shown = handed_out g.P.PredicateFn.says g.X.Expiry.read (ListedRun g.P.PredicateFn.says g.X.Expiry.read c.self.inside.engine.write_list c.get_by-entry.new.self.write_list) g.K.Clone.is_clone g.V.Clone.is_clone s (record_by (g.T.KeyTest.passes c.args.test.now) s.records) none_kept c.args.hash c.args.now.0 gets.0 c.get_by-entry.result gets.1.0 c.get_by-entry.new.self.state gets.1.1 gets.2
+          (λ x. ContainsByStep g.P.PredicateFn.says (g.T.KeyTest.passes c.args.test.now) s c.args.now.0 (is_some x)) (λ r v there visible cloned. subst (λ o. IsShown g.P.PredicateFn.says s o c.args.now.0 true) (sym there) visible) (λ hidden. hidden);
+      found = λ key passing. seen_found g.K.PartialEq.eq g.P.PredicateFn.says g.V.Clone.is_clone s key c.args.now.0 (value_found c.get_by-entry.result) (sees key passing);
+      unchanged = unchanged_when_refused g.P.PredicateFn.says g.X.Expiry.read (ListedRun g.P.PredicateFn.says g.X.Expiry.read c.self.inside.engine.write_list c.get_by-entry.new.self.write_list) g.K.Clone.is_clone g.V.Clone.is_clone s (record_by (g.T.KeyTest.passes c.args.test.now) s.records) none_kept c.args.hash c.args.now.0 gets.0 c.get_by-entry.result gets.1.0 c.get_by-entry.new.self.state gets.1.1 gets.2
+          g.C.Clock.reads c.args.clock.now c.get_by-entry.new.clock gets.1.3;
+      hasher = ap (λ x. x.hasher) gets.1.2.kept;
+      counted = rw (c.value_of-found.ensures) at c.count_look_up.ensures;
+    })
