@@ -21,8 +21,8 @@ use Rattle.moka_cache.specs.Unsent.{IsThere, ShowsWrites}
 -- of this key, which is hashed so, at this moment, with the clock before and after
 module _ {K V S X L P W C : Type 0} (m : Meaning K V X L P W C (Unit {0})) (hash_of : S → K → ℕ) (key : K)
     (now : Instant) (clock clock_after : C) where
-  -- a value is put under the key: a refused one comes back with the key, and nothing has changed; else it is the key's,
-  -- and found if nothing hides it
+  -- a value is put under the key: a refused one comes back with the key, and nothing has changed; else it is the key's
+  -- if the cache keeps anything, and found if nothing hides it
   pub record Inserts (value : V) (result : Result (Unit {0}) (InsertRefused K V))
       (old new : Synchronous K V S X L P W) : Type 0 where
     pub made : Makes m (InsertsEntry key (hash_of old.engine.hasher key) value now result) old.engine

@@ -4,7 +4,6 @@ use Rattle.std.specs.Bool.{passes}
 use Rattle.std.specs.Ordering.{nat_cmp, eq_by_cmp}
 use Rattle.std.specs.Cmp.{nat_cmp_total, eq_by_cmp_equiv, IsEquivalence, unsigned_tied}
 use Rattle.std.specs.FinMap.{FinMap, get, insert, remove, empty, from_sorted, entries, entries-from_sorted, len-entries, empty_of_len, get-empty, get-insert, get-remove}
-pub use Rattle.moka_links.proofs.FinMaps.{get-inserted as get_inserted, get-removed as get_removed}
 use Rattle.std.proofs.lemmas.Option.{none-some, same_Some}
 use Rattle.std.proofs.lemmas.Bool.{cases_eq, ne_eqb}
 
@@ -54,6 +53,14 @@ pub same_by_order : (a b : ℕ) → a ≤ b → (a < b → ⊥) → (a == b) ≡
 same_by_order a b le differ = elim (same_or_apart a b) [ inl e ↦ grind (arith, e) | inr apart ↦ let d = apart.forth in absurd (differ (grind (arith, le, d))) ]
 
 module _ {X : Type 0} where
+  -- at the key that was put in
+  pub get_inserted : (m : FinMap nat_cmp X) (n : ℕ) (x : X) → get (insert m n x) n ≡ Some x
+  get_inserted m n x = get-insert nat_cmp_total m n x n ∙ ap (λ b. cond b (Some x) (get m n)) (itself_ordered n)
+
+  -- at the key that was taken out
+  pub get_removed : (m : FinMap nat_cmp X) (n : ℕ) → get (remove m n) n ≡ None
+  get_removed m n = get-remove nat_cmp_total m n n ∙ ap (λ b. cond b None (get m n)) (itself_ordered n)
+
   -- at another key than was put in
   pub get_past_insert : (m : FinMap nat_cmp X) (n : ℕ) (x : X) (k : ℕ) → AreApart k n → get (insert m n x) k ≡ get m k
   get_past_insert m n x k a = get-insert nat_cmp_total m n x k ∙ ap (λ b. cond b (Some x) (get m k)) a.ordered
