@@ -1,6 +1,7 @@
 pub mod BaseCache
 pub mod Config
 pub mod Looks
+pub mod Plans
 pub mod Sights
 pub mod Snapshots
 pub mod Restores

@@ -15,6 +15,8 @@ use Rattle.moka_parts.specs.State.{State, Events, is_disabled}
 use Rattle.moka_parts.specs.Visibility.{has_lapsed, SomeCovers, NoneCovers}
 use Rattle.moka_store.specs.declared.store.Handle.{Handle}
 use Rattle.moka_store.specs.Store.{Kept, IsHandle}
+use Rattle.moka_engine.specs.declared.base_cache.gets.Look.{Look}
+use Rattle.moka_engine.specs.declared.base_cache.gets.Look.TheVariants.{Missed, Refused, Found}
 use Rattle.moka_engine.specs.BaseCache.{expiring_by}
 
 -- the value of a record, if there is one
@@ -38,6 +40,12 @@ module _ {K V X P S : Type 0} (kept : Kept K V S) (expirations : Expirations X) 
   Finds ignored now None = (r : Record K V) → sought ≡ Some r → (ignored ≡ true)
       ⊎ ((has_lapsed (expiring_by expirations) bound r now ≡ true) ⊎ SomeCovers says predicates r)
   Finds ignored now (Some found) = IsFound ignored now found.0 found.1
+
+  -- this is handed out of the record that is found, at its handle, unless memory for it is refused
+  abbrev pub HandsFound : {A : Type 0} → (Record K V → A → Type 0) → Bool → ℕ → Look A → Type 0
+  HandsFound Of ignored now Missed = Finds ignored now None
+  HandsFound Of ignored now Refused = (handle : Handle) × (r : Record K V) × IsFound ignored now handle r
+  HandsFound Of ignored now (Found handle a) = (r : Record K V) × IsFound ignored now handle r × Of r a
 
 -- the entry that a get answers: the record's value, and its key where that is asked for
 abbrev pub entry_at : {K V : Type 0} → Bool → Record K V → Entry K V

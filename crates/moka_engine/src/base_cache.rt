@@ -20,6 +20,7 @@ ghost use Rattle.moka_engine.specs.BaseCache.{IsServed, empty_engine, expiration
 ghost use Rattle.moka_engine.specs.Makes.{Makes, meaning};
 
 use self::gets::Moments;
+use self::inserts::Plan;
 use moka_inner::{Hashes, Inner, Layout};
 use moka_parts::calls::{Entry, KvEntry, Ticket};
 use moka_parts::closures::{NoTest, PredicateFn, Weigher};
@@ -393,34 +394,42 @@ impl<
             now result e self.new.state × Befalls L.tells e self.old self.new × (e ≡ only_notices e.notices) }
     {
         let weight = inserts::weigh(&self.weigher, &key, &value);
-        let Some((handle, found)) = self.inner.find(&key, hashes.own) else {
-            let expires = inserts::expires_at_creation(&self.expiration_policy, &key, &value, now);
-            if let Err(error) = self.inner.reserve_record() {
-                return Err(InsertRefused { error, key, value });
-            }
-            let update = Update {
-                value,
+        let plan = {
+            let moments = Moments {
+                policy: &self.expiration_policy,
+                valid_after: &self.valid_after,
                 now,
-                expires,
-                weight,
             };
-            return Ok((self.inner.insert(key, hashes, update), now));
+            inserts::plan_for(&self.inner, &moments, &key, hashes.own, &value)
         };
-        let policy = &self.expiration_policy;
-        let cause = causes::cause_of_replacement(&found, policy, self.valid_after, now);
-        let expires = inserts::expires_at_update(&found, policy, &key, &value, now);
-        if let Err(error) = self.inner.reserve_operation() {
-            return Err(InsertRefused { error, key, value });
+        match plan {
+            Plan::New(expires) => {
+                if let Err(error) = self.inner.reserve_record() {
+                    return Err(InsertRefused { error, key, value });
+                }
+                let update = Update {
+                    value,
+                    now,
+                    expires,
+                    weight,
+                };
+                Ok((self.inner.insert(key, hashes, update), now))
+            }
+            Plan::Update(handle, cause, expires) => {
+                if let Err(error) = self.inner.reserve_operation() {
+                    return Err(InsertRefused { error, key, value });
+                }
+                let update = Update {
+                    value,
+                    now,
+                    expires,
+                    weight,
+                };
+                let (old, ticket) = self.inner.update(handle, hashes.hash, update);
+                self.notifier.notify(key, old, cause);
+                Ok((ticket, now))
+            }
         }
-        let update = Update {
-            value,
-            now,
-            expires,
-            weight,
-        };
-        let (old, ticket) = self.inner.update(handle, hashes.hash, update);
-        self.notifier.notify(key, old, cause);
-        Ok((ticket, now))
     }
 
     /// Moves the operation of the ticket to the back of the queue of writes. No run starts.

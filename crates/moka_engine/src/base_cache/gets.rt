@@ -13,7 +13,7 @@ ghost use Rattle.moka_parts.specs.declared.records.ReadOperation.TheVariants as 
 ghost use Rattle.moka_store.specs.Hashing.{IsIndexHash};
 ghost use Rattle.moka_store.specs.Store.{ChangesRecord, ExpiresAsBefore, IsHandle};
 ghost use Rattle.moka_engine.specs.BaseCache.{NoneExpires, expiring_by};
-ghost use Rattle.moka_engine.specs.Looks.{Finds, Touches, entry_at, value_of};
+ghost use Rattle.moka_engine.specs.Looks.{Finds, HandsFound, Touches, entry_at, value_of};
 
 use moka_inner::Inner;
 use moka_parts::calls::Entry;
@@ -88,7 +88,89 @@ where
     Some((handle, found))
 }
 
-// The same without a test of the caller's.
+// What a look-up hands out of the record that it finds. Nothing in it is lent by the cache, which the caller may change.
+pub(super) enum Look<T> {
+    // No record is found.
+    Missed,
+    // Memory for it is refused.
+    Refused,
+    // It, and where the record is.
+    Found(Handle, T),
+}
+
+// What `entry_and_hit` makes of what `find_unless` finds.
+#[inline(always)]
+pub(super) fn look_up<K: Eq + Hash + Clone, V: Clone, S: BuildHasher, X: Expiry<K, V>, P, T, I>(
+    inner: &Inner<K, V, S>,
+    moments: &Moments<'_, X>,
+    invalidator: &Invalidator<P>,
+    sought: (&T, IndexHash),
+    ignore_if: &mut I,
+    need_key: bool,
+) -> Look<(Entry<K, V>, u64, Hit)>
+where
+    P: PredicateFn<K, V>,
+    T: KeyTest<K>,
+    I: ValueTest<V>,
+    requires own { (k : K) → T.passes sought.0.now k ≡ true
+        → IsIndexHash S.BuildHasher S.Hasher.Hasher inner.now.kept.hasher (K.hash_input k) sought.1 }
+    requires lasting { moments.now.policy.now.expiry ≡ None → NoneExpires inner.now.kept.records }
+    requires askable { (v : V) → I.can_ask ignore_if.old v }
+    ensures { (ignored : Bool)
+        × IsAskedOnce I.asks (Some ignore_if.old)
+        (value_of (record_by (T.passes sought.entry.0.now) inner.now.kept.records)) ignored (Some ignore_if.new)
+        × HandsFound inner.now.kept moments.entry.now.policy.now moments.entry.now.valid_after.now P.says
+        invalidator.now (record_by (T.passes sought.entry.0.now) inner.now.kept.records)
+        (λ r a. IsEntryCopy K.is_clone V.is_clone (entry_at need_key r) a.0 × (a.1 ≡ r.hash)
+        × Touches X.read moments.entry.now.policy.now r moments.entry.now.now.0 a.2.read.0 a.2.expires a.2.is_renewed)
+        ignored moments.entry.now.now.0 result }
+{
+    let Some((handle, found)) = find_unless(inner, moments, invalidator, sought, ignore_if) else {
+        return Look::Missed;
+    };
+    match entry_and_hit(&found, need_key, moments) {
+        Ok(handed_out) => Look::Found(handle, handed_out),
+        Err(_) => Look::Refused,
+    }
+}
+
+// A clone of the value of what `find_unless` finds, and what a hit makes of it.
+#[inline(always)]
+pub(super) fn look_at<K: Eq + Hash, V: Clone, S: BuildHasher, X: Expiry<K, V>, P, T, I>(
+    inner: &Inner<K, V, S>,
+    moments: &Moments<'_, X>,
+    invalidator: &Invalidator<P>,
+    sought: (&T, IndexHash),
+    ignore_if: &mut I,
+) -> Look<(V, Hit)>
+where
+    P: PredicateFn<K, V>,
+    T: KeyTest<K>,
+    I: ValueTest<V>,
+    requires own { (k : K) → T.passes sought.0.now k ≡ true
+        → IsIndexHash S.BuildHasher S.Hasher.Hasher inner.now.kept.hasher (K.hash_input k) sought.1 }
+    requires lasting { moments.now.policy.now.expiry ≡ None → NoneExpires inner.now.kept.records }
+    requires askable { (v : V) → I.can_ask ignore_if.old v }
+    ensures { (ignored : Bool)
+        × IsAskedOnce I.asks (Some ignore_if.old)
+        (value_of (record_by (T.passes sought.entry.0.now) inner.now.kept.records)) ignored (Some ignore_if.new)
+        × HandsFound inner.now.kept moments.entry.now.policy.now moments.entry.now.valid_after.now P.says
+        invalidator.now (record_by (T.passes sought.entry.0.now) inner.now.kept.records)
+        (λ r a. V.is_clone r.value a.0
+        × Touches X.read moments.entry.now.policy.now r moments.entry.now.now.0 a.1.read.0 a.1.expires a.1.is_renewed)
+        ignored moments.entry.now.now.0 result }
+{
+    let Some((handle, found)) = find_unless(inner, moments, invalidator, sought, ignore_if) else {
+        return Look::Missed;
+    };
+    let Ok(value) = found.value().clone() else {
+        return Look::Refused;
+    };
+    let hit = hit_of(&found, moments.policy, moments.now);
+    Look::Found(handle, (value, hit))
+}
+
+// As `find_unless`, without a test of the caller's.
 #[inline(always)]
 pub(super) fn find_shown<'a, K: Eq + Hash, V, S: BuildHasher, X, P, T: KeyTest<K>>(
     inner: &'a Inner<K, V, S>,

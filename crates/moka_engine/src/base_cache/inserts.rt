@@ -1,17 +1,55 @@
-//! What an insert weighs, and when its entry expires.
+//! What an insert finds, what it weighs, and when its entry expires.
 //! moka: `sync::base_cache::Inner::weigh`, `BaseCache::expire_after_create`, `expire_after_read_or_update`.
 ghost use Rattle.std.specs.Prelude.{◌≡◌};
 ghost use Rattle.moka_parts.specs.Calls.{Weighs};
 ghost use Rattle.moka_parts.specs.Expiry.{expires_at_first, expires_updated};
+ghost use Rattle.moka_store.specs.Hashing.{IsIndexHash};
 ghost use Rattle.moka_engine.specs.BaseCache.{expiring_by};
+ghost use Rattle.moka_engine.specs.Plans.{Plans};
 
+use super::causes::cause_of_replacement;
+use super::gets::Moments;
+use moka_inner::Inner;
 use moka_parts::closures::Weigher;
 use moka_parts::expiry::{deadline_of, is_expired_by_per_entry_ttl, remaining, renewed};
+use moka_parts::notification::RemovalCause;
 use moka_parts::policy::{ExpirationPolicy, Expiry, Instant};
 use moka_parts::record_ref::RecordRef;
+use moka_store::{Handle, IndexHash};
+use std::hash::{BuildHasher, Hash};
 
 // What an entry weighs if no weigher is set.
 const DEFAULT_WEIGHT: u32 = 1;
+
+// What an insert is to make of its key, and when the entry expires then.
+pub(super) enum Plan {
+    // A new record.
+    New(Option<Instant>),
+    // The record at this handle gets the value, and its old one leaves for this cause.
+    Update(Handle, RemovalCause, Option<Instant>),
+}
+
+// What is to be made of a key, which comes with its hash in the map, and of its value.
+#[inline(always)]
+pub(super) fn plan_for<K: Eq + Hash, V, S: BuildHasher, X: Expiry<K, V>>(
+    inner: &Inner<K, V, S>,
+    moments: &Moments<'_, X>,
+    key: &K,
+    own: IndexHash,
+    value: &V,
+) -> Plan
+    requires own { IsIndexHash S.BuildHasher S.Hasher.Hasher inner.now.kept.hasher (K.hash_input key.now) own }
+    ensures { Plans X.created X.updated K.eq inner.now.kept moments.entry.now.policy.now
+        moments.entry.now.valid_after.now key.now value.now moments.entry.now.now.0 result }
+{
+    let (policy, now) = (moments.policy, moments.now);
+    let Some((handle, found)) = inner.find(key, own) else {
+        return Plan::New(expires_at_creation(policy, key, value, now));
+    };
+    let cause = cause_of_replacement(&found, policy, *moments.valid_after, now);
+    let expires = expires_at_update(&found, policy, key, value, now);
+    Plan::Update(handle, cause, expires)
+}
 
 // The weight of an entry: the weigher's answer, or 1 if none is set.
 #[inline(always)]

@@ -62,7 +62,65 @@ where
     Some((handle, found))
 }
 
-// The same without a test of the caller's.
+// What a look-up hands out of the record that it finds. Nothing in it is lent by the cache, which the caller may change.
+pub(super) enum Look<T> {
+    // No record is found.
+    Missed,
+    // Memory for it is refused.
+    Refused,
+    // It, and where the record is.
+    Found(Handle, T),
+}
+
+// What `entry_and_hit` makes of what `find_unless` finds.
+#[inline(always)]
+pub(super) fn look_up<K: Eq + Hash + Clone, V: Clone, S: BuildHasher, X: Expiry<K, V>, P, T, I>(
+    inner: &Inner<K, V, S>,
+    moments: &Moments<'_, X>,
+    invalidator: &Invalidator<P>,
+    sought: (&T, IndexHash),
+    ignore_if: &mut I,
+    need_key: bool,
+) -> Look<(Entry<K, V>, u64, Hit)>
+where
+    P: PredicateFn<K, V>,
+    T: KeyTest<K>,
+    I: ValueTest<V>,
+{
+    let Some((handle, found)) = find_unless(inner, moments, invalidator, sought, ignore_if) else {
+        return Look::Missed;
+    };
+    match entry_and_hit(&found, need_key, moments) {
+        Ok(handed_out) => Look::Found(handle, handed_out),
+        Err(_) => Look::Refused,
+    }
+}
+
+// A clone of the value of what `find_unless` finds, and what a hit makes of it.
+#[inline(always)]
+pub(super) fn look_at<K: Eq + Hash, V: Clone, S: BuildHasher, X: Expiry<K, V>, P, T, I>(
+    inner: &Inner<K, V, S>,
+    moments: &Moments<'_, X>,
+    invalidator: &Invalidator<P>,
+    sought: (&T, IndexHash),
+    ignore_if: &mut I,
+) -> Look<(V, Hit)>
+where
+    P: PredicateFn<K, V>,
+    T: KeyTest<K>,
+    I: ValueTest<V>,
+{
+    let Some((handle, found)) = find_unless(inner, moments, invalidator, sought, ignore_if) else {
+        return Look::Missed;
+    };
+    let Ok(value) = found.value().try_clone() else {
+        return Look::Refused;
+    };
+    let hit = hit_of(&found, moments.policy, moments.now);
+    Look::Found(handle, (value, hit))
+}
+
+// As `find_unless`, without a test of the caller's.
 #[inline(always)]
 pub(super) fn find_shown<'a, K: Eq + Hash, V, S: BuildHasher, X, P, T: KeyTest<K>>(
     inner: &'a Inner<K, V, S>,

@@ -4,7 +4,7 @@
 use crate::support::prelude::*;
 
 use super::BaseCache;
-use super::gets::{self, Moments};
+use super::gets::{self, Look, Moments};
 use crate::engine::moka_inner::Hashes;
 use crate::engine::moka_parts::calls::Entry;
 use crate::engine::moka_parts::closures::{NoTest, PredicateFn, ValueTest, Weigher};
@@ -68,25 +68,30 @@ impl<
         V: Clone,
     {
         let (test, Hashes { hash: given, own }) = sought;
-        let moments = Moments {
-            policy: &self.expiration_policy,
-            valid_after: &self.valid_after,
-            now,
-        };
         let sought = (test, own);
-        let shown = gets::find_unless(&self.inner, &moments, &self.invalidator, sought, ignore_if);
-        let Some((handle, found)) = shown else {
-            self.record_miss(given, now, clock);
-            return Ok(None);
+        let looked = {
+            let moments = Moments {
+                policy: &self.expiration_policy,
+                valid_after: &self.valid_after,
+                now,
+            };
+            let (inner, predicates) = (&self.inner, &self.invalidator);
+            gets::look_up(inner, &moments, predicates, sought, ignore_if, need_key)
         };
-        let Ok((entry, hash, hit)) = gets::entry_and_hit(&found, need_key, &moments) else {
-            return Err(OutOfMemory);
-        };
-        if gets::note_hit(&mut self.inner, &self.housekeeper, handle, hash, hit) {
-            self.record_hit_by(sought, handle.number, hash, hit, clock);
-            return Ok(Some(entry));
+        match looked {
+            Look::Found(handle, (entry, hash, hit)) => {
+                if gets::note_hit(&mut self.inner, &self.housekeeper, handle, hash, hit) {
+                    self.record_hit_by(sought, handle.number, hash, hit, clock);
+                    return Ok(Some(entry));
+                }
+                Ok(Some(entry))
+            }
+            Look::Missed => {
+                self.record_miss(given, now, clock);
+                Ok(None)
+            }
+            Look::Refused => Err(OutOfMemory),
         }
-        Ok(Some(entry))
     }
 
     /// Looks up a key at the moment `now` as `get_with_hash_and_ignore_if` does, but queues no read and starts no run.
@@ -121,23 +126,24 @@ impl<
     where
         V: Clone,
     {
-        let moments = Moments {
-            policy: &self.expiration_policy,
-            valid_after: &self.valid_after,
-            now,
-        };
         let sought = (&SameKey(key), self.inner.index_hash(key));
-        let shown = gets::find_unless(&self.inner, &moments, &self.invalidator, sought, test);
-        let Some((handle, found)) = shown else {
-            return Ok(None);
+        let looked = {
+            let moments = Moments {
+                policy: &self.expiration_policy,
+                valid_after: &self.valid_after,
+                now,
+            };
+            gets::look_at(&self.inner, &moments, &self.invalidator, sought, test)
         };
-        let Ok(value) = found.value().try_clone() else {
-            return Err(OutOfMemory);
-        };
-        let hit = gets::hit_of(&found, moments.policy, now);
-        self.inner
-            .touch(handle, hit.read, hit.expires, hit.is_renewed);
-        Ok(Some(value))
+        match looked {
+            Look::Found(handle, (value, hit)) => {
+                self.inner
+                    .touch(handle, hit.read, hit.expires, hit.is_renewed);
+                Ok(Some(value))
+            }
+            Look::Missed => Ok(None),
+            Look::Refused => Err(OutOfMemory),
+        }
     }
 
     /// A clone of a key's value, if the key is there and visible at the moment `now`. Nothing is recorded, not even

@@ -14,13 +14,13 @@ use Rattle.moka_engine.proofs.base_cache.BaseCache.get_hashed.Goals.{After-note_
 
 -- the hit, as it was noted in the record
 noted : (g : Over) (c : After-note_hit g) (j : Interior g.row.K.Denot g.row.V.Denot g.row.S.Denot) → j ≡ record c.self.inside.inner { kept = j.kept } → j.kept ≡ c.note_hit.new.inner.kept
-    → IsNoted g.X.Expiry.read c.self.inside.expiration_policy c.self.inside.inner j c.in-Some.handle.number c.in-Some.found c.args.now.0 c.in-Ok.hit.read c.in-Ok.hit.expires c.in-Ok.hit.is_renewed
+    → IsNoted g.X.Expiry.read c.self.inside.expiration_policy c.self.inside.inner j c.in-Found.handle.number c.in-Found.ensures.2.0 c.args.now.0 c.in-Found.hit.read c.in-Found.hit.expires c.in-Found.hit.is_renewed
 noted g c j rest same =
-    let there = c.in-Some.ensures.2.numbered in
-    record { there = there; touches = c.in-Ok.ensures.2; rest = rest; kept = same ∙ c.note_hit.ensures.step c.in-Some.found there }
+    let there = c.in-Found.ensures.2.1.numbered in
+    record { there = there; touches = c.in-Found.ensures.2.2.2; rest = rest; kept = same ∙ c.note_hit.ensures.step c.in-Found.ensures.2.0 there }
 
 pub note_hit-requires-clause-given : goal.note_hit-requires-clause-given
-note_hit-requires-clause-given g c = (number-inside c.self.invariant.cache c.self.inside.inner refl c.in-Some.handle.number c.in-Some.found c.in-Some.ensures.2.numbered).1
+note_hit-requires-clause-given g c = (number-inside c.self.invariant.cache c.self.inside.inner refl c.in-Found.handle.number c.in-Found.ensures.2.0 c.in-Found.ensures.2.1.numbered).1
 
 pub record_hit_by-requires-clause-due : goal.record_hit_by-requires-clause-due
 record_hit_by-requires-clause-due g c =
@@ -29,31 +29,31 @@ record_hit_by-requires-clause-due g c =
 
 pub record_hit_by-requires-clause-own : goal.record_hit_by-requires-clause-own
 record_hit_by-requires-clause-own g c =
-    let same = ap (λ (k : Kept g.row.K.Denot g.row.V.Denot g.row.S.Denot). k.hasher) (c.note_hit.ensures.step c.in-Some.found c.in-Some.ensures.2.numbered) in
+    let same = ap (λ (k : Kept g.row.K.Denot g.row.V.Denot g.row.S.Denot). k.hasher) (c.note_hit.ensures.step c.in-Found.ensures.2.0 c.in-Found.ensures.2.1.numbered) in
     rw same (rw (← c.self.view_is) at c.requires.own)
 
 pub record_hit_by-requires-clause-found : goal.record_hit_by-requires-clause-found
 record_hit_by-requires-clause-found g c =
     let passes = g.T.KeyTest.passes c.args.sought.0.now in
     let one_key = g.met.T.KeyTest.one_key c.args.sought.0.now in
-    let key = c.in-Some.found.key in
-    let passing = (record_by_found g.K.PartialEq.eq passes one_key c.self.inside.inner.kept.records c.in-Some.found c.in-Some.ensures.2.found).2 in
+    let key = c.in-Found.ensures.2.0.key in
+    let passing = (record_by_found g.K.PartialEq.eq passes one_key c.self.inside.inner.kept.records c.in-Found.ensures.2.0 c.in-Found.ensures.2.1.found).2 in
     let hit = noted g (goal.at.record_hit_by-requires-clause-found g c).After-note_hit c.note_hit.new.inner (c.note_hit.ensures.waits c.if-note_hit.true) refl in
     ap (option_map (λ (r : Record g.row.K.Denot g.row.V.Denot). r.number)) (record_by_key g.K.PartialEq.eq passes one_key c.note_hit.new.inner.kept.records key passing)
     ∙ number-read c.self.invariant hit refl g.met.K.Eq.laws key (g.met.K.Eq.laws.refl key)
 
-pub returns-in_default : goal.returns-in_default
-returns-in_default g c =
-    let at = c.in_default.ensures in
+pub returns-in-Missed : goal.returns-in-Missed
+returns-in-Missed g c =
+    let at = c.in-Missed.ensures in
     let missed = get_misses g.P.PredicateFn.says g.X.Expiry.read g.L.Listener.tells g.C.Clock.reads c.self.view_is (record_by (g.T.KeyTest.passes c.args.sought.0.now)) c.args.sought.1.hash c.args.need_key at.0 c.args.now c.args.clock.now
     at.2 c.record_miss.ensures.disabled c.record_miss.ensures.enabled in
     (at.0, rw (← c.self.view_is) at.1, (Ok None, missed, refl))
 
-pub returns-in_default-entry_and_hit : goal.returns-in_default-entry_and_hit
-returns-in_default-entry_and_hit g c =
-    let at = c.in-Some.ensures in
+pub returns-in-Refused : goal.returns-in-Refused
+returns-in-Refused g c =
+    let at = c.in-Refused.ensures in
     let refused = get_refused g.P.PredicateFn.says g.X.Expiry.read g.L.Listener.tells g.C.Clock.reads c.self.view_is (record_by (g.T.KeyTest.passes c.args.sought.0.now)) c.args.sought.1.hash c.args.need_key at.0 c.args.now c.args.clock.now
-    g.met.K.Eq.laws c.self.inside.inner c.self.invariant at.2 refl (record {}) in
+    g.met.K.Eq.laws c.self.inside.inner c.self.invariant at.2.2 refl (record {}) in
     (at.0, rw (← c.self.view_is) at.1, (Err (record {}), refused, refl))
 
 pub invariant_of-self : goal.invariant_of-self
@@ -61,25 +61,25 @@ invariant_of-self g c = whole-noted c.self.invariant (noted g (goal.at.invariant
 
 pub returns-then-note_hit : goal.returns-then-note_hit
 returns-then-note_hit g c =
-    let at = c.in-Some.ensures in
+    let at = c.in-Found.ensures in
     let noted = noted g (goal.at.returns-then-note_hit g c).After-note_hit c.note_hit.new.inner (c.note_hit.ensures.waits c.if-note_hit.true) refl in
     let hit = get_hits g.P.PredicateFn.says g.X.Expiry.read g.L.Listener.tells g.C.Clock.reads c.self.view_is (record_by (g.T.KeyTest.passes c.args.sought.0.now)) c.args.sought.1.hash c.args.need_key at.0 c.args.now c.args.clock.now
-    g.met.K.Eq.laws c.self.inside.inner c.self.invariant at.2 refl noted (rw c.in-Ok.ensures.1 at c.record_hit_by.ensures) in
-    (at.0, rw (← c.self.view_is) at.1, (Ok (Some (entry_at c.args.need_key c.in-Some.found)), hit, c.in-Ok.ensures.0))
+    g.met.K.Eq.laws c.self.inside.inner c.self.invariant at.2.1 refl noted (rw c.in-Found.ensures.2.2.1 at c.record_hit_by.ensures) in
+    (at.0, rw (← c.self.view_is) at.1, (Ok (Some (entry_at c.args.need_key c.in-Found.ensures.2.0)), hit, c.in-Found.ensures.2.2.0))
 
 pub invariant_of-self-else-note_hit : goal.invariant_of-self-else-note_hit
 invariant_of-self-else-note_hit g c =
     let mid : Interior g.row.K.Denot g.row.V.Denot g.row.S.Denot = record c.self.inside.inner { kept = c.note_hit.new.inner.kept } in
     let whole = whole-noted c.self.invariant (noted g (goal.at.invariant_of-self-else-note_hit g c).After-note_hit mid refl refl) refl g.met.K.Eq.laws in
-    whole-queued mid whole refl (Hit c.in-Some.handle.number c.in-Ok.hash c.in-Ok.hit.is_renewed) c.note_hit.new.inner (c.note_hit.ensures.queued c.if-note_hit.false)
+    whole-queued mid whole refl (Hit c.in-Found.handle.number c.in-Found.hash c.in-Found.hit.is_renewed) c.note_hit.new.inner (c.note_hit.ensures.queued c.if-note_hit.false)
 
-pub returns : goal.returns
-returns g c =
-    let at = c.in-Some.ensures in
+pub returns-else-note_hit : goal.returns-else-note_hit
+returns-else-note_hit g c =
+    let at = c.in-Found.ensures in
     let mid : Interior g.row.K.Denot g.row.V.Denot g.row.S.Denot = record c.self.inside.inner { kept = c.note_hit.new.inner.kept } in
-    let hit = noted g (goal.at.returns g c).After-note_hit mid refl refl in
+    let hit = noted g (goal.at.returns-else-note_hit g c).After-note_hit mid refl refl in
     let queued = queues_read g.P.PredicateFn.says g.X.Expiry.read g.L.Listener.tells g.C.Clock.reads c.self.view_is (record_by (g.T.KeyTest.passes c.args.sought.0.now)) c.args.sought.1.hash c.args.need_key at.0 c.args.now c.args.clock.now
-    g.met.K.Eq.laws c.self.inside.inner c.self.invariant at.2 refl hit (sym c.note_hit.ensures.due ∙ c.if-note_hit.false) (Hit c.in-Some.handle.number c.in-Some.found.hash c.in-Ok.hit.is_renewed) c.note_hit.new.inner (rw c.in-Ok.ensures.1 at (c.note_hit.ensures.queued c.if-note_hit.false)) in
+    g.met.K.Eq.laws c.self.inside.inner c.self.invariant at.2.1 refl hit (sym c.note_hit.ensures.due ∙ c.if-note_hit.false) (Hit c.in-Found.handle.number c.in-Found.ensures.2.0.hash c.in-Found.hit.is_renewed) c.note_hit.new.inner (rw c.in-Found.ensures.2.2.1 at (c.note_hit.ensures.queued c.if-note_hit.false)) in
     let found = get_hits g.P.PredicateFn.says g.X.Expiry.read g.L.Listener.tells g.C.Clock.reads c.self.view_is (record_by (g.T.KeyTest.passes c.args.sought.0.now)) c.args.sought.1.hash c.args.need_key at.0 c.args.now c.args.clock.now
-    g.met.K.Eq.laws c.self.inside.inner c.self.invariant at.2 refl hit queued in
-    (at.0, rw (← c.self.view_is) at.1, (Ok (Some (entry_at c.args.need_key c.in-Some.found)), found, c.in-Ok.ensures.0))
+    g.met.K.Eq.laws c.self.inside.inner c.self.invariant at.2.1 refl hit queued in
+    (at.0, rw (← c.self.view_is) at.1, (Ok (Some (entry_at c.args.need_key c.in-Found.ensures.2.0)), found, c.in-Found.ensures.2.2.0))
