@@ -1,4 +1,5 @@
 pub mod ColdRows
+mod Fitting
 pub mod Gets
 pub mod Keys
 pub mod KnownOrders

@@ -1,17 +1,18 @@
-use Rattle.std.proofs.Common.{◌+◌, refl, ap, arith}
-use Rattle.std.specs.FinMap as finite
+use Rattle.std.proofs.Common.{ℕ, ◌<◌, ◌≤◌, ◌+◌, ◌-◌, refl, ap, arith}
 use Rattle.moka_parts.specs.declared.records.Operation.TheVariants.{Upsert}
 use Rattle.moka_parts.specs.declared.records.Record.{Record}
 use Rattle.moka_store.specs.Store.{Kept}
-use Rattle.moka_inner.specs.Interior.{Interior, first_record}
+use Rattle.moka_inner.specs.Interior.{first_record}
 use Rattle.moka_inner.proofs.InnerLemmas.{inner-inserted}
 use Rattle.moka_inner.proofs.ValuesLemmas.{map_values-insert}
 use Rattle.moka_inner.proofs.inner.Inner.restore.Goals as goal
 
+-- what was handed out leaves room for the removals
+fits : (records room handed : ℕ) → 1 < room - records → room ≤ handed + 1 → records + 1 ≤ handed
+fits records room handed some left = omega arith
+
 pub invariant_of-self : goal.invariant_of-self
 invariant_of-self g c =
-    let tickets = ap (λ (i : Interior g.row.K.Denot g.row.V.Denot g.row.S.Denot). i.next_ticket + finite.len i.kept.records) c.self.view_is in
-    let room = ap (λ (i : Interior g.row.K.Denot g.row.V.Denot g.row.S.Denot). i.operation_room) c.self.view_is in
     let step = c.insert_new-handle.ensures.step in
     let first : Record g.row.K.Denot g.row.V.Denot = first_record c.self.inside.next_number c.args.key c.args.hashes.hash c.args.update in
     inner-inserted c.self.inside.store c.insert_new-handle.new.self c.self.inside.outstanding c.hand_out.new.self c.self.inside.writes c.self.inside.reads (c.self.inside.last_ticket + 1) c.self.inside.next_number c.self.invariant
@@ -21,8 +22,8 @@ invariant_of-self g c =
     (rw c.first_record-stored.ensures at (ap (λ (k : Kept g.row.K.Denot g.row.V.Denot g.row.S.Denot). k.places) step))
     c.hand_out.ensures.items
     refl refl
-    (let t = c.requires.tickets in omega arith)
-    (let o = c.requires.operations in let r = c.hand_out.ensures.room in omega arith)
+    (rw (← c.self.view_is) at c.requires.tickets)
+    (fits _ c.self.inside.outstanding.room c.hand_out.new.self.room (rw (← c.self.view_is) at c.requires.operations) c.hand_out.ensures.room)
 
 pub returns-clause-step : goal.returns-clause-step
 returns-clause-step g c =

@@ -6,6 +6,7 @@ use Rattle.moka_store.specs.declared.table.membership.Membership.{Membership}
 use Rattle.moka_store.specs.StoreRows.{access_in, written_in, member_at}
 use Rattle.moka_store.proofs.Slots.{slots-below}
 use Rattle.moka_store.proofs.Orders.{enters}
+use Rattle.moka_store.proofs.Fitting.{few_enough, listed_fits, node_fits, one_more_node, still_fit}
 use Rattle.moka_store.proofs.Steps.{placed, unlisted, admitted}
 use Rattle.moka_store.specs.Listing.{Listing}
 use Rattle.moka_store.specs.Weights.{IsWeighed}
@@ -20,16 +21,14 @@ push_back-access-requires g c =
     let w = placed _ _ _ _ c.self.invariant.tied _ _ (rw (← c.self.view_is) at c.requires.placed) in
     let none = unlisted _ _ _ _ c.self.invariant.tied _ _ (rw (← c.self.view_is) at c.requires.placed) w (rw (← c.self.view_is) at c.requires.apart) in
     let below = slots-below access_in _ _ c.self.invariant.tied.listed _ w.row w.at_is (ap (option_map (λ (m : Membership). m.access)) none) in
-    let fits = c.self.invariant.fits in
-    omega arith
+    node_fits _ _ _ _ _ below c.self.invariant.fits
 
 pub push_back-written-requires : goal.push_back-written-requires
 push_back-written-requires g c =
     let w = placed _ _ _ _ c.self.invariant.tied _ _ (rw (← c.self.view_is) at c.requires.placed) in
     let none = unlisted _ _ _ _ c.self.invariant.tied _ _ (rw (← c.self.view_is) at c.requires.placed) w (rw (← c.self.view_is) at c.requires.apart) in
     let below = slots-below written_in _ _ c.self.invariant.written.listed _ w.row w.at_is (ap (option_and_then (λ (m : Membership). m.written)) none) in
-    let fits = c.self.invariant.fits in
-    omega arith
+    listed_fits _ _ _ _ _ _ below c.self.invariant.fits
 
 pub set_membership-none-requires : goal.set_membership-none-requires
 set_membership-none-requires g c =
@@ -47,8 +46,8 @@ invariant_of-self g c =
     let len = c.push_back-access.ensures.len in
     let room = c.push_back-access.ensures.room in
     let rows = c.set_membership-none.ensures.len in
-    let fits = c.self.invariant.fits in
-    record { tied = s.tied; written = order.written; timed = order.timed; keyed = c.self.invariant.keyed ∙ sym (ap finite.len c.set_membership-none.ensures.records); fits = (let most = ap (λ (l : Listing). l.most) p.rest in omega arith); few = c.push_back-access.ensures.few; narrow = subst AreNarrow (sym c.set_membership-none.ensures.places) c.self.invariant.narrow; weighed = subst (λ members. IsWeighed members (c.self.inside.weight + c.args.weight)) (sym s.access) (weighed-pushed w.row.number c.args.weight _ _ c.self.invariant.weighed (ap (λ n. counted_of n (map (member_at c.self.inside.table.rows) c.self.inside.access.members)) w.number_is ∙ (rw (← c.self.view_is) at c.requires.apart)) c.ranges.weight.fits) }
+    let most = ap (λ (l : Listing). l.most) p.rest in
+    record { tied = s.tied; written = order.written; timed = order.timed; keyed = c.self.invariant.keyed ∙ sym (ap finite.len c.set_membership-none.ensures.records); fits = still_fit _ _ _ _ _ _ _ _ _ _ rows (one_more_node _ _ _ _ len room) most refl c.self.invariant.fits; few = c.push_back-access.ensures.few; narrow = subst AreNarrow (sym c.set_membership-none.ensures.places) c.self.invariant.narrow; weighed = subst (λ members. IsWeighed members (c.self.inside.weight + c.args.weight)) (sym s.access) (weighed-pushed w.row.number c.args.weight _ _ c.self.invariant.weighed (ap (λ n. counted_of n (map (member_at c.self.inside.table.rows) c.self.inside.access.members)) w.number_is ∙ (rw (← c.self.view_is) at c.requires.apart)) c.ranges.weight.fits) }
 
 pub returns : goal.returns
 returns g c =
@@ -60,7 +59,7 @@ returns g c =
     (record { counted = c.args.weight; access = c.push_back-access.result; written = c.push_back-written.result }) none (c.set_membership-none.ensures.changes _ w.at_is) p.kept p.fresh p.nodes p.lookups p.rest p.unkept p.cursor in
     let len = c.push_back-access.ensures.len in
     let room = c.push_back-access.ensures.room in
-    let sum : length c.push_back-access.new.self.members + c.push_back-access.new.self.room ≡ length c.self.inside.access.members + c.self.inside.access.room = omega arith in
+    let sum : length c.push_back-access.new.self.members + c.push_back-access.new.self.room ≡ length c.self.inside.access.members + c.self.inside.access.room = one_more_node _ _ _ _ len room in
     let most = ap (λ (l : Listing). l.most) p.rest in
     let ordered = ap (λ (l : Listing). l.ordered) p.rest in
     record {
@@ -72,5 +71,5 @@ returns g c =
 
 pub overflow_add-self : goal.overflow_add-self
 overflow_add-self g c =
-    let fits = weighed-fits _ _ c.args.weight c.self.invariant.weighed (subst (λ n. n < 2 ^ 64) (sym (length-map c.self.inside.access.members (member_at c.self.inside.table.rows))) (let few = c.self.invariant.few in omega arith)) c.ranges.weight.fits in
+    let fits = weighed-fits _ _ c.args.weight c.self.invariant.weighed (subst (λ n. n < 2 ^ 64) (sym (length-map c.self.inside.access.members (member_at c.self.inside.table.rows))) (few_enough _ c.self.invariant.few)) c.ranges.weight.fits in
     omega arith

@@ -1,11 +1,12 @@
 use Rattle.std.specs.FinMap as finite
 use Rattle.std.specs.Option.{option_and_then}
-use Rattle.std.proofs.Common.{None, refl, sym, ◌∙◌, arith, ap, subst}
+use Rattle.std.proofs.Common.{None, refl, sym, ◌∙◌, ap, subst}
 use Rattle.moka_store.specs.RecordTable.{Row}
 use Rattle.moka_parts.specs.declared.records.Record.{Record}
 use Rattle.moka_store.proofs.Orders.{untimes}
 use Rattle.moka_store.proofs.Steps.{placed, retimed}
 use Rattle.moka_store.proofs.Timed.{timer-held}
+use Rattle.moka_store.proofs.Fitting.{still_fit}
 use Rattle.moka_store.specs.Timing.{Timing}
 use Rattle.moka_store.specs.Weights.{IsWeighed}
 use Rattle.moka_store.specs.StoreTies.{AreNarrow}
@@ -31,8 +32,7 @@ invariant_of-self g c =
     let order = untimes c.self.inside.table.rows c.set_timer-timer.new.self.rows c.self.inside.written c.self.inside.timers.timers c.set-none.new.self.timers c.self.invariant.written c.self.invariant.timed c.self.invariant.tied.numbered _ w.row w.at_is changes _ was _ c.self.inside.timers.timed c.set-none.ensures.kept c.set-none.ensures.lookups in
     let most = ap (λ (t : Timing). t.most) c.set-none.ensures.rest in
     let rows = c.set_timer-timer.ensures.len in
-    let fits = c.self.invariant.fits in
-    record { tied = s.tied; written = order.written; timed = order.timed; keyed = c.self.invariant.keyed ∙ sym (ap finite.len c.set_timer-timer.ensures.records); fits = omega arith; few = c.self.invariant.few; narrow = subst AreNarrow (sym c.set_timer-timer.ensures.places) c.self.invariant.narrow; weighed = subst (λ members. IsWeighed members c.self.inside.weight) (sym s.access) c.self.invariant.weighed }
+    record { tied = s.tied; written = order.written; timed = order.timed; keyed = c.self.invariant.keyed ∙ sym (ap finite.len c.set_timer-timer.ensures.records); fits = still_fit _ _ _ _ _ _ _ _ _ _ rows refl refl most c.self.invariant.fits; few = c.self.invariant.few; narrow = subst AreNarrow (sym c.set_timer-timer.ensures.places) c.self.invariant.narrow; weighed = subst (λ members. IsWeighed members c.self.inside.weight) (sym s.access) c.self.invariant.weighed }
 
 pub returns : goal.returns
 returns g c =

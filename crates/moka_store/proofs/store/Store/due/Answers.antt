@@ -1,9 +1,10 @@
 use Rattle.std.specs.FinMap as finite
-use Rattle.std.proofs.Common.{true, Some, None, refl, sym, ap, ◌∙◌, arith, subst}
+use Rattle.std.proofs.Common.{true, Some, None, refl, sym, ap, ◌∙◌, subst}
 use Rattle.moka_store.proofs.Orders.{untimes, counted-member}
 use Rattle.moka_store.proofs.TableCalls.{get-places}
 use Rattle.moka_store.proofs.Steps.{retimed}
 use Rattle.moka_store.proofs.Timed.{all-ahead, timer-row}
+use Rattle.moka_store.proofs.Fitting.{still_fit}
 use Rattle.moka_store.specs.Timing.{Timing}
 use Rattle.moka_store.specs.Weights.{IsWeighed}
 use Rattle.moka_store.specs.StoreTies.{AreNarrow}
@@ -31,8 +32,7 @@ invariant_of-self-2 g c =
     let order = untimes c.self.inside.table.rows c.set_timer-slot.new.self.rows c.self.inside.written c.self.inside.timers.timers c.due.new.self.timers c.self.invariant.written c.self.invariant.timed c.self.invariant.tied.numbered _ r.row r.at_is changes (Some c.in_ok-due.due.slot) (sym r.timer_is) None true refl c.in_ok-due.ensures.lookups in
     let most = ap (λ (t : Timing). t.most) c.in_ok-due.ensures.rest in
     let rows = c.set_timer-slot.ensures.len in
-    let fits = c.self.invariant.fits in
-    record { tied = s.tied; written = order.written; timed = order.timed; keyed = c.self.invariant.keyed ∙ sym (ap finite.len c.set_timer-slot.ensures.records); fits = omega arith; few = c.self.invariant.few; narrow = subst AreNarrow (sym c.set_timer-slot.ensures.places) c.self.invariant.narrow; weighed = subst (λ members. IsWeighed members c.self.inside.weight) (sym s.access) c.self.invariant.weighed }
+    record { tied = s.tied; written = order.written; timed = order.timed; keyed = c.self.invariant.keyed ∙ sym (ap finite.len c.set_timer-slot.ensures.records); fits = still_fit _ _ _ _ _ _ _ _ _ _ rows refl refl most c.self.invariant.fits; few = c.self.invariant.few; narrow = subst AreNarrow (sym c.set_timer-slot.ensures.places) c.self.invariant.narrow; weighed = subst (λ members. IsWeighed members c.self.inside.weight) (sym s.access) c.self.invariant.weighed }
 
 pub returns : goal.returns
 returns g c =

@@ -9,6 +9,7 @@ use Rattle.moka_parts.specs.declared.records.Record.{Record}
 use Rattle.moka_store.proofs.Orders.{stays-bare}
 use Rattle.moka_store.proofs.Gets.{after_remove}
 use Rattle.moka_store.proofs.Steps.{placed, bare-row, forgotten}
+use Rattle.moka_store.proofs.Fitting.{fewer_fit}
 use Rattle.moka_store.specs.Weights.{IsWeighed}
 use Rattle.moka_store.proofs.store.Store.forget.Goals as goal
 
@@ -23,8 +24,7 @@ invariant_of-self g c =
     let s = forgotten _ g.met.K.Eq.laws _ _ _ _ _ c.self.invariant.tied _ bare refl refl c.forget.ensures.changes in
     let stay = stays-bare c.self.inside.table.rows c.forget.new.self.rows c.self.inside.written c.self.inside.timers.timers c.self.invariant.written c.self.invariant.timed c.self.invariant.tied.numbered s.tied.numbered _ None c.forget.ensures.changes (ap (option_and_then (λ (row : Row (Record _ _)). row.membership)) bare) (ap (option_and_then (λ (row : Row (Record _ _)). row.timer)) bare) refl refl in
     let len = c.forget.ensures.len in
-    let fits = c.self.invariant.fits in
-    record { tied = s.tied; written = stay.written; timed = stay.timed; keyed = c.self.invariant.keyed ∙ sym (ap finite.len c.forget.ensures.records); fits = omega arith; few = c.self.invariant.few; narrow = λ n place there. c.self.invariant.narrow n place (after_remove _ _ n place (sym (ap (λ places. get places n) c.forget.ensures.places) ∙ there)).1; weighed = subst (λ members. IsWeighed members c.self.inside.weight) (sym s.access) c.self.invariant.weighed }
+    record { tied = s.tied; written = stay.written; timed = stay.timed; keyed = c.self.invariant.keyed ∙ sym (ap finite.len c.forget.ensures.records); fits = fewer_fit _ _ _ _ _ _ len c.self.invariant.fits; few = c.self.invariant.few; narrow = λ n place there. c.self.invariant.narrow n place (after_remove _ _ n place (sym (ap (λ places. get places n) c.forget.ensures.places) ∙ there)).1; weighed = subst (λ members. IsWeighed members c.self.inside.weight) (sym s.access) c.self.invariant.weighed }
 
 pub returns : goal.returns
 returns g c =

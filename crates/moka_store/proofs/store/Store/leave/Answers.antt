@@ -1,8 +1,9 @@
 use Rattle.std.specs.FinMap as finite
-use Rattle.std.proofs.Common.{ℕ, ◌<◌, ◌≤◌, ◌^◌, min, ◌-◌, ◌==◌, cond, None, ◌≡◌, ◌+◌, IsSome, map, length, refl, sym, ◌∙◌, arith, ap, subst}
+use Rattle.std.proofs.Common.{ℕ, ◌<◌, ◌^◌, ◌-◌, ◌==◌, cond, None, ◌≡◌, ◌+◌, IsSome, map, length, refl, sym, ◌∙◌, arith, ap, subst}
 use Rattle.moka_index.proofs.Maps.{get-removed}
 use Rattle.moka_store.proofs.Members.{counted-without}
 use Rattle.moka_store.proofs.Orders.{leaves}
+use Rattle.moka_store.proofs.Fitting.{one_node_less, still_fit}
 use Rattle.moka_store.proofs.Steps.{placed, member-there, member-row, member-node, member-slot, left}
 use Rattle.moka_store.proofs.Timed.{timer-free}
 use Rattle.moka_store.specs.Listing.{Listing}
@@ -13,14 +14,6 @@ use Rattle.moka_store.proofs.Weights.{weighed-without, weighed-least}
 use Rattle.moka_parts.specs.Records.{counted_of, without_member, without_number}
 use Rattle.moka_store.specs.StoreTies.{AreNarrow}
 use Rattle.moka_store.proofs.store.Store.leave.Goals as goal
-
--- the node that leaves makes room
-same_sum : (nodes nodes' room room' : ℕ) → nodes' + 1 ≡ nodes → room' ≡ room + 1 → nodes' + room' ≡ nodes + room
-same_sum nodes nodes' room room' len more = omega arith
-
--- as many rows fit as before
-still_fit : (rows rows' nodes nodes' room room' list list' timing : ℕ) → rows' ≡ rows → nodes' + room' ≡ nodes + room → list' ≡ list → rows ≤ min (nodes + room) (min list timing) → rows' ≤ min (nodes' + room') (min list' timing)
-still_fit rows rows' nodes nodes' room room' list list' timing same sum kept fits = rw (same, sum, kept) fits
 
 -- one node less is as few
 still_few : (nodes nodes' : ℕ) → nodes' + 1 ≡ nodes → nodes < 2 ^ 32 → nodes' < 2 ^ 32
@@ -57,8 +50,7 @@ invariant_of-self g c =
     let room = c.unlink-place.ensures.room in
     let rows = c.clear_membership.ensures.len in
     let most = ap (λ (l : Listing). l.most) p.rest in
-    let fits = c.self.invariant.fits in
-    record { tied = s.tied; written = order.written; timed = order.timed; keyed = c.self.invariant.keyed ∙ sym (ap finite.len c.clear_membership.ensures.records); fits = still_fit _ _ _ _ _ _ _ _ _ rows (same_sum _ _ _ _ len room) most fits; few = still_few _ _ len c.self.invariant.few; narrow = subst AreNarrow (sym c.clear_membership.ensures.places) c.self.invariant.narrow; weighed = subst (λ members. IsWeighed members (c.self.inside.weight - c.in-Some.membership.counted)) (sym s.access) (weighed-without w.row.number _ _ _ c.self.invariant.weighed (ap (λ n. counted_of n (map (member_at c.self.inside.table.rows) c.self.inside.access.members)) w.number_is ∙ w.counted_is)) }
+    record { tied = s.tied; written = order.written; timed = order.timed; keyed = c.self.invariant.keyed ∙ sym (ap finite.len c.clear_membership.ensures.records); fits = still_fit _ _ _ _ _ _ _ _ _ _ rows (one_node_less _ _ _ _ len room) most refl c.self.invariant.fits; few = still_few _ _ len c.self.invariant.few; narrow = subst AreNarrow (sym c.clear_membership.ensures.places) c.self.invariant.narrow; weighed = subst (λ members. IsWeighed members (c.self.inside.weight - c.in-Some.membership.counted)) (sym s.access) (weighed-without w.row.number _ _ _ c.self.invariant.weighed (ap (λ n. counted_of n (map (member_at c.self.inside.table.rows) c.self.inside.access.members)) w.number_is ∙ w.counted_is)) }
 
 pub returns : goal.returns
 returns g c =
@@ -72,7 +64,7 @@ returns g c =
     let room = c.unlink-place.ensures.room in
     let most = ap (λ (l : Listing). l.most) p.rest in
     let ordered = ap (λ (l : Listing). l.ordered) p.rest in
-    let sum : length c.unlink-place.new.self.members + c.unlink-place.new.self.room ≡ length c.self.inside.access.members + c.self.inside.access.room = same_sum _ _ _ _ len room in
+    let sum : length c.unlink-place.new.self.members + c.unlink-place.new.self.room ≡ length c.self.inside.access.members + c.self.inside.access.room = one_node_less _ _ _ _ len room in
     record {
       step = rw (s.access, order.written_is, order.cursor_is, order.timers_is, most, ordered, c.clear_membership.ensures.records, c.clear_membership.ensures.places, c.clear_membership.ensures.len, c.clear_membership.ensures.room, sum, w.number_is)
           (ap (λ (k : Kept _ _ _). record k { access = without_member c.args.handle.number k.access; written = without_number c.args.handle.number k.written; cursor = cursor_past c.args.handle.number k.written k.cursor }) same);

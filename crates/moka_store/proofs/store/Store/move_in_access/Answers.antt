@@ -1,9 +1,10 @@
-use Rattle.std.proofs.Common.{map, refl, sym, ◌∙◌, arith, subst}
+use Rattle.std.proofs.Common.{map, refl, sym, ◌∙◌, subst}
 use Rattle.moka_parts.proofs.AccessList.{counted-to_back}
 use Rattle.moka_store.proofs.Steps.{member-there, member-row, member-node, moved}
 use Rattle.moka_store.specs.StoreRows.{member_at}
 use Rattle.moka_store.specs.Weights.{IsWeighed}
 use Rattle.moka_store.proofs.Weights.{weighed-to_back}
+use Rattle.moka_store.proofs.Fitting.{still_fit}
 use Rattle.moka_store.proofs.store.Store.move_in_access.Goals as goal
 
 pub unreachable-requires : goal.unreachable-requires
@@ -19,8 +20,7 @@ invariant_of-self g c =
     let s = moved _ _ _ _ _ _ c.self.invariant.tied w.row w.at_is c.in-Some.found w.membership_is (c.move_to_back.ensures.members _ w.node_is) c.move_to_back.ensures.lookups in
     let len = c.move_to_back.ensures.len in
     let room = c.move_to_back.ensures.room in
-    let fits = c.self.invariant.fits in
-    record { tied = s.tied; written = c.self.invariant.written; timed = c.self.invariant.timed; keyed = c.self.invariant.keyed; fits = omega arith; few = (let few = c.self.invariant.few in omega arith); narrow = c.self.invariant.narrow; weighed = subst (λ members. IsWeighed members c.self.inside.weight) (sym s.access) (weighed-to_back w.row.number _ _ c.self.invariant.weighed) }
+    record { tied = s.tied; written = c.self.invariant.written; timed = c.self.invariant.timed; keyed = c.self.invariant.keyed; fits = still_fit _ _ _ _ _ _ _ _ _ _ refl (rw (len, room) refl) refl refl c.self.invariant.fits; few = rw len c.self.invariant.few; narrow = c.self.invariant.narrow; weighed = subst (λ members. IsWeighed members c.self.inside.weight) (sym s.access) (weighed-to_back w.row.number _ _ c.self.invariant.weighed) }
 
 pub returns : goal.returns
 returns g c =

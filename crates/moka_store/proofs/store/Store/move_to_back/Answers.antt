@@ -1,4 +1,4 @@
-use Rattle.std.proofs.Common.{map, refl, sym, ◌∙◌, arith, subst, ap}
+use Rattle.std.proofs.Common.{map, refl, sym, ◌∙◌, subst, ap}
 use Rattle.std.specs.Option.{option_and_then}
 use Rattle.moka_store.specs.declared.table.membership.Membership.{Membership}
 use Rattle.moka_store.specs.Listing.{Listing}
@@ -8,6 +8,7 @@ use Rattle.moka_store.proofs.Steps.{member-there, member-row, member-node, membe
 use Rattle.moka_store.specs.StoreRows.{member_at}
 use Rattle.moka_store.specs.Weights.{IsWeighed}
 use Rattle.moka_store.proofs.Weights.{weighed-to_back}
+use Rattle.moka_store.proofs.Fitting.{still_fit}
 use Rattle.moka_store.proofs.store.Store.move_to_back.Goals as goal
 
 pub unreachable-requires : goal.unreachable-requires
@@ -28,8 +29,8 @@ invariant_of-self g c =
     let order = moves c.self.inside.table.rows c.self.inside.written c.move_to_back-2.new.self c.self.invariant.written c.self.invariant.tied.numbered _ w.row w.at_is c.in-Some.membership.written (ap (option_and_then (λ (m : Membership). m.written)) w.membership_is) p.nodes p.lookups p.rest p.absent p.cursor in
     let len = c.move_to_back.ensures.len in
     let room = c.move_to_back.ensures.room in
-    let fits = c.self.invariant.fits in
-    record { tied = s.tied; written = order.written; timed = c.self.invariant.timed; keyed = c.self.invariant.keyed; fits = (let most = ap (λ (l : Listing). l.most) p.rest in omega arith); few = (let few = c.self.invariant.few in omega arith); narrow = c.self.invariant.narrow; weighed = subst (λ members. IsWeighed members c.self.inside.weight) (sym s.access) (weighed-to_back w.row.number _ _ c.self.invariant.weighed) }
+    let most = ap (λ (l : Listing). l.most) p.rest in
+    record { tied = s.tied; written = order.written; timed = c.self.invariant.timed; keyed = c.self.invariant.keyed; fits = still_fit _ _ _ _ _ _ _ _ _ _ refl (rw (len, room) refl) most refl c.self.invariant.fits; few = rw len c.self.invariant.few; narrow = c.self.invariant.narrow; weighed = subst (λ members. IsWeighed members c.self.inside.weight) (sym s.access) (weighed-to_back w.row.number _ _ c.self.invariant.weighed) }
 
 pub returns : goal.returns
 returns g c =

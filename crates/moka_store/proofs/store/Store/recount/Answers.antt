@@ -4,6 +4,7 @@ use Rattle.std.specs.Option.{option_and_then}
 use Rattle.moka_store.specs.declared.table.membership.Membership.{Membership}
 use Rattle.moka_store.specs.Listing.{Listing}
 use Rattle.moka_store.proofs.Orders.{stays-row, moves}
+use Rattle.moka_store.proofs.Fitting.{few_enough, still_fit}
 use Rattle.moka_store.proofs.Members.{counted-recounted}
 use Rattle.moka_store.proofs.Steps.{member-there, member-row, member-node, member-slot, recounted}
 use Rattle.moka_store.specs.StoreRows.{member_at}
@@ -36,8 +37,8 @@ invariant_of-self g c =
     let len = c.move_to_back.ensures.len in
     let room = c.move_to_back.ensures.room in
     let rows = c.set_counted.ensures.len in
-    let fits = c.self.invariant.fits in
-    record { tied = s.tied; written = order.written; timed = stay.timed; keyed = c.self.invariant.keyed ∙ sym (ap finite.len c.set_counted.ensures.records); fits = (let most = ap (λ (l : Listing). l.most) p.rest in omega arith); few = (let few = c.self.invariant.few in omega arith); narrow = subst AreNarrow (sym c.set_counted.ensures.places) c.self.invariant.narrow; weighed = subst (λ members. IsWeighed members (c.self.inside.weight - c.in-Some.before.counted + c.args.weight)) (sym s.access) (weighed-recounted w.row.number _ c.args.weight _ _ c.self.invariant.weighed (ap (λ n. counted_of n (map (member_at c.self.inside.table.rows) c.self.inside.access.members)) w.number_is ∙ w.counted_is) c.ranges.weight.fits) }
+    let most = ap (λ (l : Listing). l.most) p.rest in
+    record { tied = s.tied; written = order.written; timed = stay.timed; keyed = c.self.invariant.keyed ∙ sym (ap finite.len c.set_counted.ensures.records); fits = still_fit _ _ _ _ _ _ _ _ _ _ rows (rw (len, room) refl) most refl c.self.invariant.fits; few = rw len c.self.invariant.few; narrow = subst AreNarrow (sym c.set_counted.ensures.places) c.self.invariant.narrow; weighed = subst (λ members. IsWeighed members (c.self.inside.weight - c.in-Some.before.counted + c.args.weight)) (sym s.access) (weighed-recounted w.row.number _ c.args.weight _ _ c.self.invariant.weighed (ap (λ n. counted_of n (map (member_at c.self.inside.table.rows) c.self.inside.access.members)) w.number_is ∙ w.counted_is) c.ranges.weight.fits) }
 
 pub returns : goal.returns
 returns g c =
@@ -64,5 +65,5 @@ overflow_sub-self g c =
 
 pub overflow_add-self : goal.overflow_add-self
 overflow_add-self g c =
-    let fits = weighed-fits _ _ c.args.weight c.self.invariant.weighed (subst (λ n. n < 2 ^ 64) (sym (length-map c.self.inside.access.members (member_at c.self.inside.table.rows))) (let few = c.self.invariant.few in omega arith)) c.ranges.weight.fits in
+    let fits = weighed-fits _ _ c.args.weight c.self.invariant.weighed (subst (λ n. n < 2 ^ 64) (sym (length-map c.self.inside.access.members (member_at c.self.inside.table.rows))) (few_enough _ c.self.invariant.few)) c.ranges.weight.fits in
     omega arith

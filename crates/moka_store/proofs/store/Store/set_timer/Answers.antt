@@ -1,6 +1,6 @@
 use Rattle.std.specs.FinMap as finite
 use Rattle.std.specs.Option.{option_and_then}
-use Rattle.std.proofs.Common.{◌&&◌, map, is_some, refl, sym, ◌∙◌, arith, ap, subst}
+use Rattle.std.proofs.Common.{◌&&◌, map, is_some, refl, sym, ◌∙◌, ap, subst}
 use Rattle.moka_store.specs.RecordTable.{Row}
 use Rattle.moka_parts.specs.declared.records.Record.{Record}
 use Rattle.moka_parts.specs.Records.{counted_of}
@@ -8,6 +8,7 @@ use Rattle.moka_parts.specs.Time.{moment_of}
 use Rattle.moka_parts.specs.declared.policy.Instant.{Instant}
 use Rattle.moka_parts.proofs.Options.{mapped_is_some}
 use Rattle.moka_store.proofs.Orders.{times, timer-room, member-of}
+use Rattle.moka_store.proofs.Fitting.{still_fit, timed_fit}
 use Rattle.moka_store.proofs.Steps.{handled, retimed}
 use Rattle.moka_store.proofs.Timed.{timer-held}
 use Rattle.moka_store.specs.Timing.{Timing}
@@ -20,10 +21,9 @@ pub set-timer-requires : goal.set-timer-requires
 set-timer-requires g c =
     let h = handled _ _ _ _ c.self.invariant.tied _ _ (rw (← c.self.view_is) at c.requires.handle.placed) (rw (← c.self.view_is) at c.requires.handle.stored) in
     let was = c.timing_at-before.ensures.timer ∙ ap (option_and_then (λ (row : Row (Record _ _)). row.timer)) h.at_is in
-    let fits = c.self.invariant.fits in
     record {
       held = rw was (timer-held _ _ c.self.invariant.timed _ h.row h.at_is);
-      room = timer-room c.self.inside.table.rows c.self.inside.timers.timers c.self.invariant.timed _ h.row h.at_is _ c.self.inside.timers.most (omega arith) _ was;
+      room = timer-room c.self.inside.table.rows c.self.inside.timers.timers c.self.invariant.timed _ h.row h.at_is _ c.self.inside.timers.most (timed_fit _ _ _ _ _ c.self.invariant.fits) _ was;
       slot = c.timing_at-before.ensures.slot;
     }
 
@@ -43,8 +43,7 @@ invariant_of-self g c =
     let order = times c.self.inside.table.rows c.set_timer-before.new.self.rows c.self.inside.written c.self.inside.timers.timers c.set-timer.new.self.timers c.self.invariant.written c.self.invariant.timed c.self.invariant.tied.numbered _ h.row h.at_is c.set-timer.result changes c.timing_at-before.result.0 was c.self.inside.timers.timed (moment_of c.timing_at-before.result.1) kept c.set-timer.ensures.fresh c.set-timer.ensures.lookups c.set-timer.ensures.untimed member in
     let most = ap (λ (t : Timing). t.most) c.set-timer.ensures.rest in
     let rows = c.set_timer-before.ensures.len in
-    let fits = c.self.invariant.fits in
-    record { tied = s.tied; written = order.written; timed = order.timed; keyed = c.self.invariant.keyed ∙ sym (ap finite.len c.set_timer-before.ensures.records); fits = omega arith; few = c.self.invariant.few; narrow = subst AreNarrow (sym c.set_timer-before.ensures.places) c.self.invariant.narrow; weighed = subst (λ members. IsWeighed members c.self.inside.weight) (sym s.access) c.self.invariant.weighed }
+    record { tied = s.tied; written = order.written; timed = order.timed; keyed = c.self.invariant.keyed ∙ sym (ap finite.len c.set_timer-before.ensures.records); fits = still_fit _ _ _ _ _ _ _ _ _ _ rows refl refl most c.self.invariant.fits; few = c.self.invariant.few; narrow = subst AreNarrow (sym c.set_timer-before.ensures.places) c.self.invariant.narrow; weighed = subst (λ members. IsWeighed members c.self.inside.weight) (sym s.access) c.self.invariant.weighed }
 
 pub returns : goal.returns
 returns g c =

@@ -6,6 +6,7 @@ use Rattle.moka_store.specs.RecordTable.{records_of}
 use Rattle.moka_index.proofs.Maps.{get-removed}
 use Rattle.moka_store.proofs.Gets.{len-removed}
 use Rattle.moka_store.proofs.Steps.{handled, index-of, taken}
+use Rattle.moka_store.proofs.Fitting.{still_fit}
 use Rattle.moka_store.specs.Weights.{IsWeighed}
 use Rattle.moka_store.specs.StoreTies.{AreNarrow}
 use Rattle.moka_store.proofs.store.Store.take_record.Goals as goal
@@ -27,10 +28,9 @@ invariant_of-self g c =
     let s = taken _ g.met.K.Eq.laws _ _ _ _ _ c.self.invariant.tied h.row h.at_is (c.take-taken.ensures.changes _ h.at_is) in
     let stay = stays-row c.self.inside.table.rows c.take-taken.new.self.rows c.self.inside.written c.self.inside.timers.timers c.self.invariant.written c.self.invariant.timed c.self.invariant.tied.numbered s.tied.numbered _ h.row (record h.row { stored = None }) h.at_is (c.take-taken.ensures.changes _ h.at_is) refl refl refl refl in
     let len = c.take-taken.ensures.len in
-    let fits = c.self.invariant.fits in
     let shorter = ap finite.len c.take-taken.ensures.records ∙ ap (λ n. finite.len (remove (records_of c.self.inside.table.rows) n)) h.number_at_is ∙ len-removed _ _ h.stored h.record_is in
     let fewer = ap finite.len c.remove.ensures.entries ∙ len-removed _ _ _ (index-of _ g.met.K.Eq.laws _ _ _ c.self.invariant.tied _ _ h) in
-    record { tied = rw c.remove.ensures.entries s.tied; written = stay.written; timed = stay.timed; keyed = fewer ∙ ap (λ n. n - 1) c.self.invariant.keyed ∙ sym shorter; fits = omega arith; few = c.self.invariant.few; narrow = subst AreNarrow (sym c.take-taken.ensures.places) c.self.invariant.narrow; weighed = subst (λ members. IsWeighed members c.self.inside.weight) (sym s.access) c.self.invariant.weighed }
+    record { tied = rw c.remove.ensures.entries s.tied; written = stay.written; timed = stay.timed; keyed = fewer ∙ ap (λ n. n - 1) c.self.invariant.keyed ∙ sym shorter; fits = still_fit _ _ _ _ _ _ _ _ _ _ len refl refl refl c.self.invariant.fits; few = c.self.invariant.few; narrow = subst AreNarrow (sym c.take-taken.ensures.places) c.self.invariant.narrow; weighed = subst (λ members. IsWeighed members c.self.inside.weight) (sym s.access) c.self.invariant.weighed }
 
 pub returns : goal.returns
 returns g c =
