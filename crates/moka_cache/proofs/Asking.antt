@@ -2,8 +2,8 @@
 use Rattle.std.proofs.Common.{◌≡◌, refl, ℕ, Bool, true, false, List, [], ◌∷◌, Option, Some, None, is_some, Result, Ok, Err, IfOk, OnErr, ap, sym, subst, ◌∙◌, inl, inr, MatchBool, true≢false}
 use Rattle.std.specs.Prelude.{IfSome}
 use Rattle.moka_parts.specs.declared.notification.RemovalCause.{RemovalCause}
-use Rattle.moka_parts.specs.declared.policy.Instant.{Instant}
-use Rattle.moka_parts.specs.declared.records.Record.{Record}
+use Rattle.moka_records.specs.declared.instant.Instant.{Instant}
+use Rattle.moka_records.specs.declared.records.Record.{Record}
 use Rattle.moka_parts.specs.declared.calls.Ticket.{Ticket}
 use Rattle.moka_parts.specs.declared.calls.Entry.{Entry}
 use Rattle.moka_parts.specs.declared.calls.KvEntry.{KvEntry}
@@ -11,7 +11,8 @@ use Rattle.moka_parts.specs.declared.calls.Call.TheVariants as call
 use Rattle.moka_parts.specs.declared.calls.Reply.TheVariants as reply
 use Rattle.moka_parts.specs.declared.error.OutOfMemory.{OutOfMemory}
 use Rattle.moka_parts.specs.declared.error.InsertRefused.{InsertRefused}
-use Rattle.moka_parts.specs.Records.{Notice, record_of_key, when_listening}
+use Rattle.moka_parts.specs.Notices.{Notice, when_listening}
+use Rattle.moka_records.specs.Records.{record_of_key}
 use Rattle.moka_parts.specs.State.{State, Settings, Meaning, Events, is_disabled}
 use Rattle.moka_parts.specs.Causes.{cause_of_removal}
 use Rattle.moka_parts.specs.Maintenance.{Terms, Course}

@@ -1,19 +1,21 @@
 -- What calls with a test of the key make is what the same calls make of a key that passes.
 use Rattle.std.proofs.Common.{◌≡◌, ℕ, Bool, true, false, List, Option, Some, None, find, Result, Ok, ap, subst, sym, ◌∙◌, MatchBool, refl}
-use Rattle.moka_parts.specs.declared.records.Record.{Record}
+use Rattle.moka_records.specs.declared.records.Record.{Record}
 use Rattle.moka_parts.specs.declared.calls.Ticket.{Ticket}
 use Rattle.moka_parts.specs.declared.calls.Entry.{Entry}
 use Rattle.moka_parts.specs.declared.calls.KvEntry.{KvEntry}
 use Rattle.moka_parts.specs.declared.error.OutOfMemory.{OutOfMemory}
 use Rattle.moka_parts.specs.Calls.{Unchanged, GetStep, GetsAt, ContainsStep, RemoveStep, RemovesAt}
-use Rattle.moka_parts.specs.KeyTests.{ContainsByStep, GetByStep, RemoveByStep, record_by}
+use Rattle.moka_parts.specs.KeyTests.{ContainsByStep, GetByStep, RemoveByStep}
+use Rattle.moka_records.specs.KeyTests.{record_by}
 use Rattle.moka_parts.specs.Maintenance.{Terms, Course}
-use Rattle.moka_parts.specs.Records.{Notice, record_of_key}
+use Rattle.moka_parts.specs.Notices.{Notice}
+use Rattle.moka_records.specs.Records.{record_of_key}
 use Rattle.moka_parts.specs.Settling.{IsWellNumbered}
 use Rattle.moka_parts.specs.State.{State, Events, is_disabled}
 use Rattle.moka_parts.specs.Visibility.{IsShown}
-use Rattle.moka_parts.proofs.Tested.{record_by_found, record_by_key}
-use Rattle.moka_parts.proofs.Values.{values-empty}
+use Rattle.moka_records.proofs.Tested.{record_by_found, record_by_key}
+use Rattle.moka_records.proofs.Values.{values-empty}
 
 module _ {K V : Type 0} (eq : K → K → Bool) (passes : K → Bool) (one_key : (x y : K) → passes x ≡ true → passes y ≡ eq x y) where
   module _ {X P W : Type 0} (s : State K V X P W) where

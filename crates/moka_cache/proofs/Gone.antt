@@ -4,13 +4,13 @@ use Rattle.std.specs.Cmp.{IsEquivalence}
 use Rattle.std.specs.FinMap.{get, remove}
 use Rattle.moka_parts.specs.declared.calls.KvEntry.{KvEntry}
 use Rattle.moka_parts.specs.declared.calls.Ticket.{Ticket}
-use Rattle.moka_parts.specs.declared.records.Record.{Record}
+use Rattle.moka_records.specs.declared.records.Record.{Record}
 use Rattle.moka_parts.specs.Calls.{RemovesAt}
-use Rattle.moka_parts.specs.Records.{Records, record_of_key}
+use Rattle.moka_records.specs.Records.{Records, record_of_key}
 use Rattle.moka_parts.specs.Settling.{IsValid}
 use Rattle.moka_parts.specs.State.{State}
-use Rattle.moka_parts.proofs.Lookup.{record_of_key_found, absent_key, present_key}
-use Rattle.moka_parts.proofs.Maps.{same_or_apart, get_removed, get_past_remove}
+use Rattle.moka_records.proofs.Lookup.{record_of_key_found, absent_key, present_key}
+use Rattle.moka_records.proofs.Maps.{same_or_apart, get_removed, get_past_remove}
 use Rattle.moka_laws.proofs.RunKeeps.{Keeps}
 use Rattle.moka_cache.specs.Saved.{KeepsRecords}
 

@@ -5,7 +5,7 @@ use Rattle.moka_parts.specs.declared.calls.Reply.{Reply}
 use Rattle.moka_parts.specs.State.{Meaning}
 use Rattle.moka_parts.specs.Runs.{Engine}
 use Rattle.moka_parts.specs.declared.error.InsertRefused.{InsertRefused}
-use Rattle.moka_parts.specs.declared.policy.Instant.{Instant}
+use Rattle.moka_records.specs.declared.instant.Instant.{Instant}
 use Rattle.moka_calls.specs.Synchronous.{InsertsEntry, Makes}
 use Rattle.moka_calls.specs.Computing.{InTurn}
 use Rattle.moka_calls.specs.Many.{Each}

@@ -5,19 +5,20 @@ use Rattle.std.specs.Cmp.{IsEquivalence}
 use Rattle.std.specs.FinMap.{get, insert}
 use Rattle.std.proofs.lemmas.Option.{same_Some}
 use Rattle.moka_parts.specs.declared.calls.Entry.{Entry}
-use Rattle.moka_parts.specs.declared.records.ReadOperation.{ReadOperation}
-use Rattle.moka_parts.specs.declared.records.Record.{Record}
+use Rattle.moka_records.specs.declared.records.ReadOperation.{ReadOperation}
+use Rattle.moka_records.specs.declared.records.Record.{Record}
 use Rattle.moka_parts.specs.declared.error.OutOfMemory.{OutOfMemory}
 use Rattle.moka_parts.specs.declared.error.SendError.{SendError}
 use Rattle.moka_parts.specs.Calls.{GetsAt, GetStep, RecordsRead, after_hit, hit_record, RunsIfDue, Unchanged, SendStep}
 use Rattle.moka_parts.specs.Listed.{ListedRun}
 use Rattle.moka_parts.specs.Maintenance.{Terms, Course}
-use Rattle.moka_parts.specs.Records.{Notice, Records, record_of_key}
+use Rattle.moka_parts.specs.Notices.{Notice}
+use Rattle.moka_records.specs.Records.{Records, record_of_key}
 use Rattle.moka_parts.specs.Settling.{IsValid}
 use Rattle.moka_parts.specs.State.{State, Events, is_disabled}
 use Rattle.moka_laws.proofs.CallsKeep.{record_at_its_number}
-use Rattle.moka_parts.proofs.Lookup.{record_of_key_found, present_key}
-use Rattle.moka_parts.proofs.Maps.{get_inserted, get_past_insert, same_or_apart}
+use Rattle.moka_records.proofs.Lookup.{record_of_key_found, present_key}
+use Rattle.moka_records.proofs.Maps.{get_inserted, get_past_insert, same_or_apart}
 use Rattle.moka_laws.proofs.RunKeeps.{Keeps, keeps_itself, run_keeps}
 use Rattle.moka_laws.proofs.Kept.{kept_by_run, kept_by_due, kept_by_send}
 use Rattle.moka_cache.specs.Saved.{KeepsRecords}

@@ -7,12 +7,12 @@ use Rattle.std.proofs.lemmas.List.Elements.{Contains-push_cases}
 use Rattle.std.proofs.lemmas.Bool.{and_parts, or_parts}
 use Rattle.std.proofs.lemmas.Option.{same_Some}
 use Rattle.moka_parts.specs.declared.policy.EvictionPolicy.{EvictionPolicy}
-use Rattle.moka_parts.specs.declared.records.Operation.{Operation}
-use Rattle.moka_parts.specs.declared.records.Operation.TheVariants.{Upsert, Removal}
-use Rattle.moka_parts.specs.declared.records.ReadOperation.{ReadOperation}
-use Rattle.moka_parts.specs.declared.records.ReadOperation.TheVariants.{Hit, Miss}
-use Rattle.moka_parts.specs.declared.records.Record.{Record}
-use Rattle.moka_parts.specs.declared.records.Ticketed.{Ticketed}
+use Rattle.moka_records.specs.declared.records.Operation.{Operation}
+use Rattle.moka_records.specs.declared.records.Operation.TheVariants.{Upsert, Removal}
+use Rattle.moka_records.specs.declared.records.ReadOperation.{ReadOperation}
+use Rattle.moka_records.specs.declared.records.ReadOperation.TheVariants.{Hit, Miss}
+use Rattle.moka_records.specs.declared.records.Record.{Record}
+use Rattle.moka_records.specs.declared.records.Ticketed.{Ticketed}
 use Rattle.moka_parts.specs.declared.notification.RemovalCause.{RemovalCause}
 use Rattle.moka_parts.specs.declared.notification.RemovalCause.TheVariants.{Expired, Explicit, Replaced, Size}
 use Rattle.moka_parts.specs.declared.error.SendError.{SendError}
@@ -21,17 +21,18 @@ use Rattle.moka_parts.specs.Exact.{weight_of_records}
 use Rattle.moka_parts.specs.Listed.{ListedRun}
 use Rattle.moka_parts.specs.Maintenance.{Choice, Removes, MovesToBack, Drops, Freedom, Terms, Course, Tests, HasCause, AreJustified, is_past_write, is_past_read, is_front, is_over, after_choice, after_choices, kept_by_choices, after_queued_reads, before_steps, at_end, after_run, tests_of, AreFree}
 use Rattle.moka_parts.specs.Reads.{after_reads, after_read}
-use Rattle.moka_parts.specs.Records.{Notice, Records, counted_of, has_room, is_member}
+use Rattle.moka_parts.specs.Notices.{Notice}
+use Rattle.moka_records.specs.Records.{Records, counted_of, has_room, is_member}
 use Rattle.moka_parts.specs.Settling.{IsWaiting}
 use Rattle.moka_parts.specs.State.{State, Contents, contents}
 use Rattle.moka_parts.specs.Visibility.{has_lapsed, is_expired, is_past_live, is_past_idle, is_written_before, is_read_before}
 use Rattle.moka_parts.specs.Writes.{Fate, Ignored, Overtaken, Counted, Admitted, TooHeavy, Preferred, Refused, with_applied, fate_by_policy, fate_of_newcomer, fate_of_record, after_fate, after_write, after_writes}
-use Rattle.moka_parts.proofs.Maps.{AreApart, same_or_apart, get_removed, get_past_remove}
+use Rattle.moka_records.proofs.Maps.{AreApart, same_or_apart, get_removed, get_past_remove}
 use Rattle.moka_laws.proofs.RunKeeps.{reads_keep}
-use Rattle.moka_parts.proofs.Options.{none_by_test}
+use Rattle.moka_records.proofs.Options.{none_by_test}
 use Rattle.moka_laws.proofs.Tickets.{all_of}
 use Rattle.moka_laws.proofs.Kept.{kept_by_run, kept_by_send}
-use Rattle.moka_engine.specs.declared.base_cache.restores.Restored.{Restored}
+use Rattle.moka_engine.specs.parts.Restored.{Restored}
 use Rattle.moka_cache.specs.Saved.{HasRoomFor, IsRoomyFor, KeepsUnexpired, TakesOnlyExpired, WeighAtMost}
 use Rattle.moka_cache.proofs.Alike.{none_kept}
 use Rattle.moka_cache.proofs.Roomy.{FitsIn, enters, enters_again, fits_still, left, moved_back, taken_out, never_over, newcomer_has_room}

@@ -8,13 +8,13 @@ use Rattle.std.specs.FinMap as finite
 use Rattle.std.proofs.lemmas.List.{length-map, map-set, get_or-map}
 use Rattle.std.proofs.lemmas.List.Elements.{same_from_all_zip}
 use Rattle.std.proofs.lemmas.List.Sorted.{IsPermutation-keeps, IsPermutation-refl, IsPermutation-trans, IsPermutation-sym, Contains-permutation}
-use Rattle.moka_parts.specs.declared.records.Record.{Record}
+use Rattle.moka_records.specs.declared.records.Record.{Record}
 use Rattle.moka_parts.specs.Calls.{KeysStep, ScanStep, ScansAt}
 use Rattle.moka_parts.specs.Copies.{HandsOut, IsCopy, ClonesAreEqual}
-use Rattle.moka_parts.specs.Records.{record_of_key}
+use Rattle.moka_records.specs.Records.{record_of_key}
 use Rattle.moka_parts.specs.Settling.{IsValid}
 use Rattle.moka_parts.specs.State.{State}
-use Rattle.moka_parts.proofs.Lookup.{found_behind, left_part, right_part, present_key}
+use Rattle.moka_records.proofs.Lookup.{found_behind, left_part, right_part, present_key}
 use Rattle.moka_laws.proofs.OrderKept.{of_each}
 use Rattle.moka_laws.proofs.Tickets.{all_of}
 use Rattle.moka_cache.specs.Visible.{AreShown, ListsVisible, LooksUp, LooksUpClones}

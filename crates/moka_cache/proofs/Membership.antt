@@ -1,15 +1,15 @@
 -- After a run each record is a member.
 use Rattle.std.proofs.Common.{◌≡◌, refl, ℕ, ◌<◌, Bool, true, false, List, [], inl, inr, Option, Some, None, ap, sym, ◌∙◌, arith}
 use Rattle.std.specs.FinMap.{get, empty}
-use Rattle.moka_parts.specs.declared.records.Operation.{Operation}
-use Rattle.moka_parts.specs.declared.records.Operation.TheVariants.{Upsert}
+use Rattle.moka_records.specs.declared.records.Operation.{Operation}
+use Rattle.moka_records.specs.declared.records.Operation.TheVariants.{Upsert}
 use Rattle.moka_parts.specs.Calls.{RunStep}
 use Rattle.moka_parts.specs.Listed.{ListedRun}
 use Rattle.moka_parts.specs.Maintenance.{Terms}
-use Rattle.moka_parts.specs.Records.{counted_of, is_member}
+use Rattle.moka_records.specs.Records.{counted_of, is_member}
 use Rattle.moka_parts.specs.Settling.{IsTracked, IsWaiting, IsValid}
 use Rattle.moka_parts.specs.State.{State, Events, is_disabled}
-use Rattle.moka_parts.proofs.Maps.{nothing_at}
+use Rattle.moka_records.proofs.Maps.{nothing_at}
 use Rattle.moka_cache.specs.Saved.{HasOnlyMembers}
 use Rattle.moka_laws.proofs.Alike.{listed_run_alike}
 use Rattle.moka_cache.proofs.Posting.{listed_run_empties}

@@ -2,20 +2,20 @@
 use Rattle.std.proofs.Common.{◌≡◌, refl, ℕ, ◌<◌, ◌≤◌, Bool, true, false, Option, Some, None, Ok, ap, sym, subst, ◌∙◌, inr, arith}
 use Rattle.std.specs.Cmp.{IsEquivalence}
 use Rattle.std.specs.FinMap.{get}
-use Rattle.moka_parts.specs.declared.policy.Instant.{Instant}
-use Rattle.moka_parts.specs.declared.records.Record.{Record}
-use Rattle.moka_parts.specs.declared.records.Operation.{Operation}
-use Rattle.moka_parts.specs.declared.records.Operation.TheVariants.{Upsert, Removal}
-use Rattle.moka_parts.specs.declared.records.Ticketed.{Ticketed}
+use Rattle.moka_records.specs.declared.instant.Instant.{Instant}
+use Rattle.moka_records.specs.declared.records.Record.{Record}
+use Rattle.moka_records.specs.declared.records.Operation.{Operation}
+use Rattle.moka_records.specs.declared.records.Operation.TheVariants.{Upsert, Removal}
+use Rattle.moka_records.specs.declared.records.Ticketed.{Ticketed}
 use Rattle.moka_parts.specs.declared.calls.Ticket.{Ticket}
-use Rattle.moka_parts.specs.Records.{record_of_key, counted_of}
+use Rattle.moka_records.specs.Records.{record_of_key, counted_of}
 use Rattle.moka_parts.specs.State.{State, Events}
 use Rattle.moka_parts.specs.Settling.{IsWaiting, IsTracked, IsValid}
 use Rattle.moka_parts.specs.Expiry.{expires_at_first, expires_updated}
 use Rattle.moka_parts.specs.Calls.{new_record, updated_record, InsertsAt, InsertStep, ContainsStep}
 use Rattle.moka_parts.specs.Visibility.{has_lapsed, NoneCovers, IsShown}
-use Rattle.moka_parts.proofs.Maps.{get_inserted}
-use Rattle.moka_parts.proofs.Lookup.{record_of_key_found, present_key}
+use Rattle.moka_records.proofs.Maps.{get_inserted}
+use Rattle.moka_records.proofs.Lookup.{record_of_key_found, present_key}
 use Rattle.moka_laws.proofs.Tickets.{all_of}
 use Rattle.moka_cache.specs.Unsent.{IsHeld, IsOlder, AreOlder, IsThere, ShowsWrites}
 

@@ -4,15 +4,15 @@ use Rattle.std.specs.Cmp.{IsEquivalence}
 use Rattle.std.specs.FinMap.{get, insert}
 use Rattle.std.proofs.lemmas.List.Elements.{Contains-append_left, Contains-append_right, Contains-push}
 use Rattle.moka_parts.specs.declared.calls.Ticket.{Ticket}
-use Rattle.moka_parts.specs.declared.policy.Instant.{Instant}
-use Rattle.moka_parts.specs.declared.records.Record.{Record}
-use Rattle.moka_parts.specs.Records.{Records}
+use Rattle.moka_records.specs.declared.instant.Instant.{Instant}
+use Rattle.moka_records.specs.declared.records.Record.{Record}
+use Rattle.moka_records.specs.Records.{Records}
 use Rattle.moka_parts.specs.Settling.{IsValid}
 use Rattle.moka_parts.specs.Runs.{Engine}
 use Rattle.moka_parts.specs.State.{State, Meaning}
-use Rattle.moka_parts.proofs.Lookup.{present_key}
-use Rattle.moka_parts.proofs.Maps.{same_or_apart, get_inserted, get_past_insert}
-use Rattle.moka_engine.specs.declared.base_cache.restores.Restored.{Restored}
+use Rattle.moka_records.proofs.Lookup.{present_key}
+use Rattle.moka_records.proofs.Maps.{same_or_apart, get_inserted, get_past_insert}
+use Rattle.moka_engine.specs.parts.Restored.{Restored}
 use Rattle.moka_engine.specs.Restores.{RestoreStep, restored, restored_record}
 use Rattle.moka_cache.specs.Saved.{AddsOnly, IsOfItem, IsRestored, KeepsRecords, PutsBack, PutsAllBack}
 use Rattle.moka_cache.specs.Unsent.{IsHeld, AreOlder, HoldsUnsent}

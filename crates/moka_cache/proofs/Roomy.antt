@@ -5,17 +5,16 @@ use Rattle.std.specs.FinMap.{get, remove, values}
 use Rattle.std.proofs.lemmas.List.Sums.{sum_by-cons}
 use Rattle.std.proofs.lemmas.List.Sorted.{sum_by-IsPermutation}
 use Rattle.std.proofs.lemmas.Option.{none-some, same_Some}
-use Rattle.moka_parts.specs.declared.records.Member.{Member}
-use Rattle.moka_parts.specs.declared.records.Record.{Record}
+use Rattle.moka_records.specs.declared.records.Member.{Member}
+use Rattle.moka_records.specs.declared.records.Record.{Record}
 use Rattle.moka_parts.specs.Exact.{weight_of_records}
 use Rattle.moka_parts.specs.Maintenance.{is_over}
-use Rattle.moka_parts.specs.Records.{Records, member, counted_of, numbers_of, total_weight, has_room, without_member, to_back}
+use Rattle.moka_records.specs.Records.{Records, member, counted_of, numbers_of, total_weight, has_room, without_member, to_back}
 use Rattle.moka_parts.specs.State.{Contents}
 use Rattle.moka_parts.specs.Writes.{with_applied}
-use Rattle.moka_parts.proofs.AccessList.{counted_taken_out, counted_past_taken_out, counted_pushed, counted_past_pushed, counted-to_back, distinct_taken_out, distinct_pushed, distinct-to_back}
-use Rattle.moka_parts.proofs.Counting.{front_once, rest_once}
-use Rattle.moka_parts.proofs.Maps.{AreApart, same_or_apart, itself_tested, get_inserted, get_past_insert, get_removed, get_past_remove}
-use Rattle.moka_parts.proofs.Values.{values_removed, values_replaced}
+use Rattle.moka_records.proofs.AccessList.{counted_taken_out, counted_past_taken_out, counted_pushed, counted_past_pushed, counted-to_back, distinct_taken_out, distinct_pushed, distinct-to_back, front_once, rest_once}
+use Rattle.moka_records.proofs.Maps.{AreApart, same_or_apart, itself_tested, get_inserted, get_past_insert, get_removed, get_past_remove}
+use Rattle.moka_records.proofs.Values.{values_removed, values_replaced}
 
 module _ {K V : Type 0} where
   -- the record stands there with this weight

@@ -1,7 +1,7 @@
 -- Saving the visible entries, one after the other.
 use Rattle.std.proofs.Common.{◌≡◌, refl, Bool, List, [], ◌∷◌, ◌++◌, append_assoc, append-nil, inl, inr, Some, None, ap, sym, subst, ◌∙◌}
-use Rattle.moka_parts.specs.declared.records.Member.{Member}
-use Rattle.moka_engine.specs.declared.base_cache.restores.Restored.{Restored}
+use Rattle.moka_records.specs.declared.records.Member.{Member}
+use Rattle.moka_engine.specs.parts.Restored.{Restored}
 use Rattle.moka_engine.specs.Snapshots.{Scene, Seen, IsListed, ArePassed, ListsNext}
 use Rattle.moka_cache.specs.Saved.{AreSaved, IsSaved}
 

@@ -7,18 +7,18 @@ use Rattle.std.proofs.lemmas.Bool.{and_parts}
 use Rattle.std.proofs.lemmas.Option.{same_Some}
 use Rattle.moka_parts.specs.declared.policy.EvictionPolicy.{EvictionPolicy}
 use Rattle.moka_parts.specs.declared.policy.EvictionPolicy.TheVariants.{TinyLfu, Lru}
-use Rattle.moka_parts.specs.declared.records.Record.{Record}
-use Rattle.moka_parts.specs.declared.records.Member.{Member}
-use Rattle.moka_parts.specs.declared.records.Operation.{Operation}
-use Rattle.moka_parts.specs.declared.records.Operation.TheVariants.{Upsert, Removal}
+use Rattle.moka_records.specs.declared.records.Record.{Record}
+use Rattle.moka_records.specs.declared.records.Member.{Member}
+use Rattle.moka_records.specs.declared.records.Operation.{Operation}
+use Rattle.moka_records.specs.declared.records.Operation.TheVariants.{Upsert, Removal}
 use Rattle.moka_parts.specs.declared.records.Registered.{Registered}
-use Rattle.moka_parts.specs.declared.records.Ticketed.{Ticketed}
-use Rattle.moka_parts.specs.Records.{Records, is_settled, settled_members, is_member, has_room, total_weight}
+use Rattle.moka_records.specs.declared.records.Ticketed.{Ticketed}
+use Rattle.moka_records.specs.Records.{Records, is_settled, settled_members, is_member, has_room, total_weight}
 use Rattle.moka_parts.specs.State.{State, Contents, contents}
 use Rattle.moka_parts.specs.Candidates.{prefix, victims_for, is_preferred}
 use Rattle.moka_parts.specs.Writes.{Fate, Ignored, Overtaken, Counted, Admitted, TooHeavy, Preferred, Refused, with_applied, without_records, rejected, fate_by_frequency, fate_by_policy, fate_of_newcomer, fate_of_record, after_fate, after_write, after_writes}
 use Rattle.moka_parts.specs.Maintenance.{Choice, Removes, MovesToBack, Drops, Freedom, Tests, AreFree, IsJustified, AreJustified, after_choice, after_choices, kept_by_choice, after_queued_reads, at_end, before_steps, tests_of}
-use Rattle.moka_parts.proofs.Maps.{AreApart, same_or_apart, get_inserted, get_past_insert, get_past_remove, apart_below}
+use Rattle.moka_records.proofs.Maps.{AreApart, same_or_apart, get_inserted, get_past_insert, get_past_remove, apart_below}
 use Rattle.moka_laws.proofs.RunKeeps.{reads_keep}
 use Rattle.moka_laws.proofs.Kept.{kept_by_send}
 use Rattle.moka_parts.specs.declared.error.SendError.{SendError}

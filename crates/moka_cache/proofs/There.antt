@@ -7,17 +7,17 @@ use Rattle.std.proofs.lemmas.List.Sorted.{sum_by-IsPermutation}
 use Rattle.std.specs.List.{AllByRecursion}
 use Rattle.std.proofs.lemmas.Option.{same_Some}
 use Rattle.moka_parts.specs.declared.calls.Ticket.{Ticket}
-use Rattle.moka_parts.specs.declared.records.Operation.TheVariants.{Upsert}
-use Rattle.moka_parts.specs.declared.records.Record.{Record}
+use Rattle.moka_records.specs.declared.records.Operation.TheVariants.{Upsert}
+use Rattle.moka_records.specs.declared.records.Record.{Record}
 use Rattle.moka_parts.specs.Exact.{weight_of_records}
 use Rattle.moka_parts.specs.Settling.{IsValid, IsWaiting}
 use Rattle.moka_parts.specs.State.{State, is_disabled}
 use Rattle.moka_parts.specs.Visibility.{has_lapsed}
 use Rattle.moka_laws.proofs.CallsKeep.{next_number_free}
-use Rattle.moka_parts.proofs.Lookup.{record_of_key_found, present_key}
-use Rattle.moka_parts.proofs.Maps.{same_or_apart, get_inserted, get_past_insert}
-use Rattle.moka_parts.proofs.Values.{values_inserted}
-use Rattle.moka_engine.specs.declared.base_cache.restores.Restored.{Restored}
+use Rattle.moka_records.proofs.Lookup.{record_of_key_found, present_key}
+use Rattle.moka_records.proofs.Maps.{same_or_apart, get_inserted, get_past_insert}
+use Rattle.moka_records.proofs.Values.{values_inserted}
+use Rattle.moka_engine.specs.parts.Restored.{Restored}
 use Rattle.moka_engine.specs.Restores.{RestoreStep, restored, restored_record}
 use Rattle.moka_cache.proofs.Restoring.{of_applied}
 use Rattle.moka_cache.specs.Saved.{AreAsWeighed, HasRoomFor, IsOfItem, IsRestored, IsRoomyFor, KeepsUnexpired, TakesOnlyExpired, has_expired}

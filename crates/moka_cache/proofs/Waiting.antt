@@ -3,22 +3,22 @@ use Rattle.std.proofs.Common.{◌≡◌, refl, ℕ, ◌+◌, ◌<◌, ◌≤◌,
 use Rattle.std.specs.FinMap.{get, insert, remove, empty, contains_key, get-empty}
 use Rattle.std.specs.Ordering.{nat_cmp}
 use Rattle.std.proofs.lemmas.Option.{same_Some}
-use Rattle.moka_parts.specs.declared.policy.Instant.{Instant}
-use Rattle.moka_parts.specs.declared.records.Record.{Record}
-use Rattle.moka_parts.specs.declared.records.Operation.{Operation}
-use Rattle.moka_parts.specs.declared.records.Operation.TheVariants.{Upsert, Removal}
+use Rattle.moka_records.specs.declared.instant.Instant.{Instant}
+use Rattle.moka_records.specs.declared.records.Record.{Record}
+use Rattle.moka_records.specs.declared.records.Operation.{Operation}
+use Rattle.moka_records.specs.declared.records.Operation.TheVariants.{Upsert, Removal}
 use Rattle.moka_parts.specs.declared.calls.Ticket.{Ticket}
 use Rattle.moka_parts.specs.declared.calls.KvEntry.{KvEntry}
 use Rattle.moka_parts.specs.declared.error.InsertRefused.{InsertRefused}
 use Rattle.moka_parts.specs.declared.error.SendError.{SendError}
 use Rattle.moka_parts.specs.declared.error.SendError.TheVariants.{UnknownTicket, QueueFull}
-use Rattle.moka_parts.specs.Records.{record_of_key}
+use Rattle.moka_records.specs.Records.{record_of_key}
 use Rattle.moka_parts.specs.State.{State, Events, is_disabled}
 use Rattle.moka_parts.specs.Calls.{Unchanged, SendsAt, SendStep, InsertsAt, InsertStep, RemovesAt, RemoveStep, entry_of, queue_length}
 use Rattle.moka_parts.specs.Settling.{IsWellNumbered}
-use Rattle.moka_parts.proofs.Maps.{same_or_apart, get_inserted, get_past_insert, get_removed, get_past_remove}
-use Rattle.moka_parts.proofs.Lookup.{record_of_key_empty}
-use Rattle.moka_parts.proofs.Values.{empty_map}
+use Rattle.moka_records.proofs.Maps.{same_or_apart, get_inserted, get_past_insert, get_removed, get_past_remove}
+use Rattle.moka_records.proofs.Lookup.{record_of_key_empty}
+use Rattle.moka_records.proofs.Values.{empty_map}
 
 -- ---- one operation alone
 

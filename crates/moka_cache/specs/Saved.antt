@@ -4,20 +4,20 @@ use Rattle.std.specs.FinMap.{get}
 use Rattle.std.specs.List.{AllByRecursion, IsDistinct}
 use Rattle.std.specs.Vec.Iter.{into_iter_items}
 use Rattle.moka_parts.specs.declared.calls.Ticket.{Ticket}
-use Rattle.moka_parts.specs.declared.policy.Instant.{Instant}
-use Rattle.moka_parts.specs.declared.records.Member.{Member}
-use Rattle.moka_parts.specs.declared.records.Operation.TheVariants.{Upsert}
-use Rattle.moka_parts.specs.declared.records.Record.{Record}
+use Rattle.moka_records.specs.declared.instant.Instant.{Instant}
+use Rattle.moka_records.specs.declared.records.Member.{Member}
+use Rattle.moka_records.specs.declared.records.Operation.TheVariants.{Upsert}
+use Rattle.moka_records.specs.declared.records.Record.{Record}
 use Rattle.moka_parts.specs.Calls.{no_events, Weighs}
 use Rattle.moka_parts.specs.Exact.{weight_of_records}
-use Rattle.moka_parts.specs.Records.{counted_of, is_member, numbers_of, record_of_key}
+use Rattle.moka_records.specs.Records.{counted_of, is_member, numbers_of, record_of_key}
 use Rattle.moka_parts.specs.Runs.{Engine, Befalls}
 use Rattle.moka_parts.specs.Settling.{IsWaiting}
 use Rattle.moka_parts.specs.State.{State, Settings, Meaning, is_disabled}
-use Rattle.moka_parts.specs.Time.{has_passed, deadline, moment_of}
+use Rattle.moka_records.specs.Time.{has_passed, deadline, moment_of}
 use Rattle.moka_parts.specs.Visibility.{has_lapsed}
-use Rattle.moka_engine.specs.declared.base_cache.restores.Restored.{Restored}
-use Rattle.moka_engine.specs.declared.base_cache.restores.RestoreRefused.{RestoreRefused}
+use Rattle.moka_engine.specs.parts.Restored.{Restored}
+use Rattle.moka_engine.specs.parts.RestoreRefused.{RestoreRefused}
 use Rattle.moka_engine.specs.Restores.{RestoreStep}
 use Rattle.moka_engine.specs.Snapshots.{Scene, Seen, IsListed, IsPassed}
 use Rattle.moka_cache.specs.declared.cache.saves.RestoreManyRefused.{RestoreManyRefused}

@@ -2,14 +2,14 @@
 use Rattle.std.specs.Prelude.{◌≡◌, ℕ, Bool, ◌<◌, false, List, [], Some, None}
 use Rattle.std.specs.FinMap.{get}
 use Rattle.std.specs.List.{AllByRecursion}
-use Rattle.moka_parts.specs.declared.policy.Instant.{Instant}
-use Rattle.moka_parts.specs.declared.records.Record.{Record}
-use Rattle.moka_parts.specs.declared.records.Operation.{Operation}
-use Rattle.moka_parts.specs.declared.records.Operation.TheVariants.{Upsert, Removal}
-use Rattle.moka_parts.specs.declared.records.Ticketed.{Ticketed}
-use Rattle.moka_parts.specs.Records.{Records, record_of_key}
+use Rattle.moka_records.specs.declared.instant.Instant.{Instant}
+use Rattle.moka_records.specs.declared.records.Record.{Record}
+use Rattle.moka_records.specs.declared.records.Operation.{Operation}
+use Rattle.moka_records.specs.declared.records.Operation.TheVariants.{Upsert, Removal}
+use Rattle.moka_records.specs.declared.records.Ticketed.{Ticketed}
+use Rattle.moka_records.specs.Records.{Records, record_of_key}
 use Rattle.moka_parts.specs.State.{State}
-use Rattle.moka_parts.specs.Time.{has_passed, is_before, deadline, moment_of}
+use Rattle.moka_records.specs.Time.{has_passed, is_before, deadline, moment_of}
 
 module _ {K V : Type 0} (n : ℕ) (r : Record K V) where
   -- the record is there but for the applied generation, which is older than the record

@@ -5,7 +5,7 @@ ghost use Rattle.std.specs.Prelude.{◌≡◌, true, false, Option, Some, None, 
 ghost use Rattle.moka_parts.specs.Calls.{ContainsStep};
 ghost use Rattle.moka_parts.specs.declared.error.InsertRefused.{InsertRefused};
 ghost use Rattle.moka_calls.specs.Entries.{entry_value, IsFresh, OrInserts, OrInsertsMade, OrInsertsIfMade, OrInsertsIfNoError};
-ghost use Rattle.moka_parts.specs.Hashing.{key_hash};
+ghost use Rattle.moka_records.specs.Hashing.{key_hash};
 ghost use Rattle.moka_calls.specs.Synchronous.{Makes, meaning_of, InsertsMade, HandsOutOwn};
 
 use crate::cache::{Cache, Put, always_made, if_made};

@@ -2,7 +2,7 @@
 ghost use Rattle.std.specs.Prelude.{IfOk};
 ghost use Rattle.std.specs.Vec.Iter.{into_iter_items};
 ghost use Rattle.moka_parts.specs.Copies.{ClonesAreEqual};
-ghost use Rattle.moka_parts.specs.declared.policy.Instant.{Instant};
+ghost use Rattle.moka_records.specs.declared.instant.Instant.{Instant};
 ghost use Rattle.moka_cache.specs.Visible.{ListsVisible, LooksUp, LooksUpClones};
 
 use crate::cache::Cache;

@@ -2,7 +2,7 @@
 //! is refused.
 ghost use Rattle.std.specs.Prelude.{◌≡◌};
 ghost use Rattle.moka_parts.specs.Counters.{after_look_ups};
-ghost use Rattle.moka_parts.specs.Hashing.{key_hash};
+ghost use Rattle.moka_records.specs.Hashing.{key_hash};
 ghost use Rattle.moka_calls.specs.Many.{GetsMany, InsertsMany, InvalidatesMany, found_by};
 ghost use Rattle.moka_calls.specs.Synchronous.{Makes, hears_clones, meaning_of};
 

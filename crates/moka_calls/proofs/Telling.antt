@@ -2,11 +2,11 @@
 use Rattle.std.proofs.Common.{◌≡◌, refl, ◌+◌, ◌≤◌, List, [], ◌∷◌, count_by, Option, Some, None, ap, sym, subst, inl, inr}
 use Rattle.moka_parts.specs.declared.notification.RemovalCause.{RemovalCause}
 use Rattle.moka_parts.specs.declared.notification.RemovalCause.TheVariants.{Expired, Explicit, Replaced, Size}
-use Rattle.moka_parts.specs.Records.{Notice}
+use Rattle.moka_parts.specs.Notices.{Notice}
 use Rattle.moka_parts.specs.Runs.{notices_of}
 use Rattle.moka_parts.specs.State.{Meaning}
 use Rattle.moka_parts.specs.Surroundings.{Leads, Heard, NoticeStep}
-use Rattle.moka_parts.specs.Time.{greatest}
+use Rattle.moka_records.specs.Time.{greatest}
 use Rattle.moka_calls.specs.declared.removals.Removals.{Removals}
 use Rattle.moka_calls.specs.declared.removals.CountingListener.{CountingListener}
 use Rattle.moka_calls.specs.Removed.{no_removals, after_removal, counting, removals_of, is_of, AreHeld, AreCounted, CountsHeard, CountsRemovals, PassesOn}

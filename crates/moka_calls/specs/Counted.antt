@@ -2,7 +2,7 @@
 use Rattle.std.specs.Prelude.{◌≡◌, ℕ, ◌+◌, ◌≤◌, Bool, true, false, List, [], ◌++◌, count_by, Option, Some, None, Result, Ok}
 use Rattle.std.specs.declared.alloc.Global.{Global}
 use Rattle.std.specs.declared.vec.Vec.{Vec}
-use Rattle.moka_parts.specs.declared.policy.Instant.{Instant}
+use Rattle.moka_records.specs.declared.instant.Instant.{Instant}
 use Rattle.moka_parts.specs.declared.calls.Call.{Call}
 use Rattle.moka_parts.specs.declared.calls.Call.TheVariants as call
 use Rattle.moka_parts.specs.declared.calls.Reply.{Reply}
@@ -10,7 +10,7 @@ use Rattle.moka_parts.specs.declared.calls.Reply.TheVariants as reply
 use Rattle.moka_parts.specs.declared.error.CapacityError.{CapacityError}
 use Rattle.moka_parts.specs.declared.error.InsertRefused.{InsertRefused}
 use Rattle.moka_parts.specs.declared.error.OutOfMemory.{OutOfMemory}
-use Rattle.moka_parts.specs.Time.{greatest, plus}
+use Rattle.moka_records.specs.Time.{greatest, plus}
 use Rattle.moka_parts.specs.Copies.{IsCopiedAnswer}
 use Rattle.moka_calls.specs.declared.many.GetManyRefused.{GetManyRefused}
 use Rattle.moka_calls.specs.declared.many.InsertManyRefused.{InsertManyRefused}

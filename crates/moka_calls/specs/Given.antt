@@ -1,8 +1,8 @@
 -- What a look-up sees, and what a call hands out that makes a value where none is seen.
 use Rattle.std.specs.Prelude.{◌≡◌, ℕ, Bool, false, Option, Some, None, Result, Ok, Err, ◌⊎◌}
-use Rattle.moka_parts.specs.declared.records.Record.{Record}
+use Rattle.moka_records.specs.declared.records.Record.{Record}
 use Rattle.moka_parts.specs.Calls.{ContainsStep}
-use Rattle.moka_parts.specs.Records.{record_of_key}
+use Rattle.moka_records.specs.Records.{record_of_key}
 use Rattle.moka_parts.specs.State.{State}
 use Rattle.moka_parts.specs.Visibility.{IsVisible}
 use Rattle.moka_calls.specs.declared.error.GetWithRefused.{GetWithRefused}

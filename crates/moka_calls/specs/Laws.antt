@@ -5,7 +5,7 @@ use Rattle.moka_parts.specs.declared.calls.Call.TheVariants as call
 use Rattle.moka_parts.specs.declared.calls.Reply.{Reply}
 use Rattle.moka_parts.specs.declared.calls.Reply.TheVariants as reply
 use Rattle.moka_parts.specs.declared.error.CapacityError.{CapacityError}
-use Rattle.moka_parts.specs.declared.policy.Instant.{Instant}
+use Rattle.moka_records.specs.declared.instant.Instant.{Instant}
 use Rattle.moka_parts.specs.Calls.{CapacityStep, no_events}
 use Rattle.moka_parts.specs.State.{State, Meaning, keeps_write_list}
 use Rattle.moka_parts.specs.Settling.{IsValid}

@@ -4,11 +4,11 @@ use Rattle.moka_parts.specs.declared.calls.Call.{Call}
 use Rattle.moka_parts.specs.declared.calls.Reply.{Reply}
 use Rattle.moka_parts.specs.declared.notification.RemovalCause.{RemovalCause}
 use Rattle.moka_parts.specs.declared.notification.RemovalCause.TheVariants.{Expired, Explicit, Replaced, Size}
-use Rattle.moka_parts.specs.Records.{Notice}
+use Rattle.moka_parts.specs.Notices.{Notice}
 use Rattle.moka_parts.specs.Runs.{Engine, notices_of}
 use Rattle.moka_parts.specs.State.{Meaning}
 use Rattle.moka_parts.specs.Surroundings.{Heard}
-use Rattle.moka_parts.specs.Time.{greatest, plus}
+use Rattle.moka_records.specs.Time.{greatest, plus}
 use Rattle.moka_calls.specs.declared.removals.Removals.{Removals}
 use Rattle.moka_calls.specs.declared.removals.CountingListener.{CountingListener}
 use Rattle.moka_parts.specs.Counters.{one_more}

@@ -2,7 +2,7 @@
 //! law.
 ghost use Rattle.moka_calls.specs.Removed.{counting, CountsHeard, CountsRemovals, PassesOn};
 ghost use Rattle.moka_calls.specs.Limits.{CallsSetNoCapacity, KeepsLimits, ManySetNoCapacity};
-ghost use Rattle.moka_parts.specs.declared.policy.Instant.{Instant};
+ghost use Rattle.moka_records.specs.declared.instant.Instant.{Instant};
 ghost use Rattle.std.specs.Prelude.{ℕ};
 ghost use Rattle.moka_calls.specs.Synchronous.{meaning_of, hears_clones};
 ghost use Rattle.moka_calls.specs.Counted.{CountsCalls, AddsUp, SumsToLookUps};

@@ -4,7 +4,7 @@ ghost use Rattle.moka_parts.specs.State.{Events, meaning_of};
 ghost use Rattle.moka_parts.specs.Surroundings.{Leads};
 ghost use Rattle.moka_parts.specs.Calls.{only_notices, KeyStep};
 ghost use Rattle.moka_parts.specs.Copies.{ClonesAreEqual};
-ghost use Rattle.moka_parts.specs.Records.{Notice};
+ghost use Rattle.moka_parts.specs.Notices.{Notice};
 ghost use Rattle.moka_parts.specs.Drives.{Drives};
 ghost use Rattle.moka_parts.specs.Runs.{Befalls};
 ghost use Rattle.moka_parts.specs.declared.calls.Reply.TheVariants.{Report};

@@ -1,7 +1,7 @@
 -- Steps of each cache, one after the other.
 use Rattle.std.proofs.Common.{◌≡◌, Bool, false, ◌||◌, List, [], ◌∷◌, length, refl, sym, subst, arith}
 use Rattle.std.specs.List.{AllZip, IsFirstAndRest}
-use Rattle.moka_parts.specs.declared.policy.Instant.{Instant}
+use Rattle.moka_records.specs.declared.instant.Instant.{Instant}
 use Rattle.moka_parts.specs.State.{Meaning}
 use Rattle.moka_calls.specs.Synchronous.{Synchronous}
 use Rattle.moka_each.specs.Each.{Ran, AllRan}

@@ -3,17 +3,19 @@ use Rattle.std.proofs.Common.{◌≡◌, refl, ℕ, ◌<◌, Bool, List, inl, in
 use Rattle.std.specs.Cmp.{IsEquivalence}
 use Rattle.std.specs.FinMap.{get, insert, remove}
 use Rattle.moka_parts.specs.declared.notification.RemovalCause.{RemovalCause}
-use Rattle.moka_parts.specs.declared.records.Record.{Record}
+use Rattle.moka_records.specs.declared.records.Record.{Record}
 use Rattle.moka_parts.specs.Calls.{no_events}
-use Rattle.moka_parts.specs.Records.{Notice, Records, record_of_key}
+use Rattle.moka_parts.specs.Notices.{Notice}
+use Rattle.moka_records.specs.Records.{Records, record_of_key}
 use Rattle.moka_parts.specs.Runs.{Engine, Befalls}
 use Rattle.moka_parts.specs.Settling.{IsValid}
 use Rattle.moka_parts.specs.State.{State, Settings}
 use Rattle.moka_parts.specs.Surroundings.{Heard}
-use Rattle.moka_parts.proofs.Lookup.{present_key}
+use Rattle.moka_records.proofs.Lookup.{present_key}
 use Rattle.moka_store.specs.Store.{Kept}
 use Rattle.moka_store.proofs.Gets.{after_insert, after_remove}
-use Rattle.moka_engine.specs.BaseCache.{IsCache, IsStocked, NoneExpires, IsWhole}
+use Rattle.moka_engine.specs.BaseCache.{IsCache, IsStocked, IsWhole}
+use Rattle.moka_lookups.specs.Expirations.{NoneExpires}
 use Rattle.moka_engine.proofs.Stocked.{stocked-roomier}
 use Rattle.moka_inner.specs.Interior.{Interior}
 use Rattle.moka_laws.proofs.Quiet.{nothing_heard}

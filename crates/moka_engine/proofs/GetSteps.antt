@@ -6,29 +6,32 @@ use Rattle.std.specs.FinMap.{get, insert}
 use Rattle.moka_parts.specs.declared.calls.Entry.{Entry}
 use Rattle.moka_parts.specs.declared.error.OutOfMemory.{OutOfMemory}
 use Rattle.moka_parts.specs.declared.notification.RemovalCause.{RemovalCause}
-use Rattle.moka_parts.specs.declared.policy.Instant.{Instant}
-use Rattle.moka_parts.specs.declared.records.ReadOperation.{ReadOperation}
-use Rattle.moka_parts.specs.declared.records.ReadOperation.TheVariants.{Hit, Miss}
-use Rattle.moka_parts.specs.declared.records.Record.{Record}
+use Rattle.moka_records.specs.declared.instant.Instant.{Instant}
+use Rattle.moka_records.specs.declared.records.ReadOperation.{ReadOperation}
+use Rattle.moka_records.specs.declared.records.ReadOperation.TheVariants.{Hit, Miss}
+use Rattle.moka_records.specs.declared.records.Record.{Record}
 use Rattle.moka_parts.specs.Calls.{no_events, queue_length, GetsAt, RecordsRead, queueing, IsMissed, IsHit, answer_at, hit_record, after_hit, hit_at, hit_operation}
 use Rattle.moka_parts.specs.Expiry.{is_renewal, renewed, answer_to_hit}
 use Rattle.moka_parts.specs.Housekeeping.{is_due}
 use Rattle.moka_parts.specs.Listed.{ListedRun}
 use Rattle.moka_parts.specs.Maintenance.{Terms, Course}
 use Rattle.moka_parts.specs.Policy.{Expirations}
-use Rattle.moka_parts.specs.Records.{Notice, Records, record_of_key, with_record}
+use Rattle.moka_parts.specs.Notices.{Notice}
+use Rattle.moka_records.specs.Records.{Records, record_of_key, with_record}
 use Rattle.moka_parts.specs.Runs.{Engine, Befalls}
 use Rattle.moka_parts.specs.State.{State, Settings, Events, is_disabled}
 use Rattle.moka_parts.specs.Surroundings.{Leads}
 use Rattle.moka_laws.proofs.CallsKeep.{found_enabled}
-use Rattle.moka_parts.proofs.Lookup.{present_key}
-use Rattle.moka_parts.proofs.Maps.{get_inserted}
+use Rattle.moka_records.proofs.Lookup.{present_key}
+use Rattle.moka_records.proofs.Maps.{get_inserted}
 use Rattle.moka_laws.proofs.StepsKeep.{hit_valid, valid_with}
 use Rattle.moka_store.specs.declared.store.Handle.{Handle}
 use Rattle.moka_store.specs.Store.{Kept}
 use Rattle.moka_inner.specs.Interior.{Interior}
-use Rattle.moka_engine.specs.BaseCache.{IsStocked, IsWhole, expirations_of, expiring_by}
-use Rattle.moka_engine.specs.Looks.{IsFound, LooksUp, Touches, entry_at}
+use Rattle.moka_engine.specs.BaseCache.{IsStocked, IsWhole}
+use Rattle.moka_lookups.specs.Expirations.{expirations_of, expiring_by}
+use Rattle.moka_engine.specs.Looks.{LooksUp}
+use Rattle.moka_lookups.specs.Looks.{IsFound, Touches, entry_at}
 use Rattle.moka_engine.specs.Makes.{Takes}
 use Rattle.moka_engine.proofs.EngineSteps.{with_inner, cache_with, order_and_hasher, cache_changed, befalls-inside, unexpiring-inserted, cache-inner, there-inside, number-inside, own-inside}
 use Rattle.moka_laws.proofs.Quiet.{befalls-nothing}

@@ -3,19 +3,19 @@ use Rattle.std.proofs.Common.{◌≡◌, refl, ℕ, Bool, true, ◌<◌, List, [
 use Rattle.std.specs.Cmp.{IsEquivalence}
 use Rattle.std.specs.FinMap.{get}
 use Rattle.std.proofs.lemmas.Option.{same_Some}
-use Rattle.moka_parts.specs.declared.records.Operation.{Operation}
-use Rattle.moka_parts.specs.declared.records.Operation.TheVariants.{Removal}
-use Rattle.moka_parts.specs.declared.records.Record.{Record}
+use Rattle.moka_records.specs.declared.records.Operation.{Operation}
+use Rattle.moka_records.specs.declared.records.Operation.TheVariants.{Removal}
+use Rattle.moka_records.specs.declared.records.Record.{Record}
 use Rattle.moka_parts.specs.Calls.{KeeperRun, keeper_terms}
 use Rattle.moka_parts.specs.Listed.{ListedRun}
 use Rattle.moka_parts.specs.Maintenance.{Freedom, after_run}
-use Rattle.moka_parts.specs.Records.{counted_of, record_of_key}
+use Rattle.moka_records.specs.Records.{counted_of, record_of_key}
 use Rattle.moka_parts.specs.Settling.{IsWaitingIn, IsWaiting, IsTracked, IsValid}
 use Rattle.moka_parts.specs.Runs.{Engine}
 use Rattle.moka_parts.specs.State.{State, Events}
 use Rattle.moka_laws.proofs.CallsKeep.{record_at_its_number}
 use Rattle.moka_laws.proofs.Kept.{kept_by_run}
-use Rattle.moka_parts.proofs.Lookup.{record_of_key_found, present_key}
+use Rattle.moka_records.proofs.Lookup.{record_of_key_found, present_key}
 use Rattle.moka_laws.proofs.RunKeeps.{Keeps, keeps_itself, run_keeps}
 use Rattle.moka_store.proofs.Gets.{option-cases}
 use Rattle.moka_inner.specs.ReadNumber.{IsReadNumber}

@@ -2,8 +2,8 @@
 use Rattle.std.proofs.Common.{◌≡◌, ℕ, Bool, ◌||◌, Option, is_some, option_map, ap, sym, ◌∙◌}
 use Rattle.std.specs.Duration.{as_nanos}
 use Rattle.std.specs.declared.time.Duration.{Duration}
-use Rattle.moka_parts.specs.declared.policy.Instant.{Instant}
-use Rattle.moka_parts.proofs.Options.{mapped_is_some}
+use Rattle.moka_records.specs.declared.instant.Instant.{Instant}
+use Rattle.moka_records.proofs.Options.{mapped_is_some}
 
 -- more is left where there is a time to live, a time to idle or an invalidation of all, or the capacity is exceeded
 pub idle_answer : (live idle : Option ℕ) (time_to_live time_to_idle : Option Duration) → option_map as_nanos time_to_live ≡ live → option_map as_nanos time_to_idle ≡ idle → (bound : Option Instant) (over left : Bool)

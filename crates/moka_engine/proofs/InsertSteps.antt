@@ -8,21 +8,23 @@ use Rattle.moka_parts.specs.declared.error.InsertError.{InsertError}
 use Rattle.moka_parts.specs.declared.error.InsertError.TheVariants.{NumbersUsedUp, OutOfMemory}
 use Rattle.moka_parts.specs.declared.error.InsertRefused.{InsertRefused}
 use Rattle.moka_parts.specs.declared.notification.RemovalCause.{RemovalCause}
-use Rattle.moka_parts.specs.declared.policy.Instant.{Instant}
-use Rattle.moka_parts.specs.declared.records.Operation.TheVariants.{Upsert}
-use Rattle.moka_parts.specs.declared.records.Record.{Record}
+use Rattle.moka_records.specs.declared.instant.Instant.{Instant}
+use Rattle.moka_records.specs.declared.records.Operation.TheVariants.{Upsert}
+use Rattle.moka_records.specs.declared.records.Record.{Record}
 use Rattle.moka_parts.specs.Calls.{no_events, only_notices, Weighs, InsertStep, HasInsertError, handing_out, inserted, new_record, replaced, updated_record}
 use Rattle.moka_parts.specs.Causes.{cause_of_replacement}
 use Rattle.moka_parts.specs.Expiry.{expires_at_first, expires_updated}
 use Rattle.moka_parts.specs.Notification.{HearsOnce}
-use Rattle.moka_parts.specs.Records.{when_listening, record_of_key, with_record}
+use Rattle.moka_parts.specs.Notices.{when_listening}
+use Rattle.moka_records.specs.Records.{record_of_key, with_record}
 use Rattle.moka_parts.specs.Runs.{Engine, Befalls}
 use Rattle.moka_parts.specs.State.{State, Settings, Events, is_disabled}
 use Rattle.moka_laws.proofs.CallsKeep.{inserted_valid, replaced_valid}
-use Rattle.moka_store.specs.Updates.{updated}
-use Rattle.moka_store.specs.declared.store.Update.{Update}
+use Rattle.moka_table.specs.Updates.{updated}
+use Rattle.moka_table.specs.declared.table.Update.{Update}
 use Rattle.moka_inner.specs.Interior.{Interior, first_record, handing_out_inside}
-use Rattle.moka_engine.specs.BaseCache.{IsCache, IsStocked, IsWhole, expirations_of, expiring_by}
+use Rattle.moka_engine.specs.BaseCache.{IsCache, IsStocked, IsWhole}
+use Rattle.moka_lookups.specs.Expirations.{expirations_of, expiring_by}
 use Rattle.moka_engine.proofs.Stocked.{stocked-inserted, update_waits}
 use Rattle.moka_engine.proofs.EngineSteps.{with_inner, cache_with, order_and_hasher, cache_changed, without_room, inside-roomier, stocked-room, befalls-inside, unexpiring-inserted, cache-inner, there-inside, number-inside, key-inside}
 

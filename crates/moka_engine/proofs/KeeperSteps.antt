@@ -2,8 +2,8 @@
 use Rattle.std.proofs.Common.{◌≡◌, refl, ℕ, Bool, false, List, [], ◌∷◌, ◌++◌, length, Option, ap, sym, subst, ◌∙◌, if◌then◌else◌}
 use Rattle.std.specs.Prelude.{nat_lt}
 use Rattle.moka_parts.specs.declared.notification.RemovalCause.{RemovalCause}
-use Rattle.moka_parts.specs.declared.policy.Instant.{Instant}
-use Rattle.moka_parts.specs.declared.records.ReadOperation.{ReadOperation}
+use Rattle.moka_records.specs.declared.instant.Instant.{Instant}
+use Rattle.moka_records.specs.declared.records.ReadOperation.{ReadOperation}
 use Rattle.moka_parts.specs.Calls.{no_events, keeper_terms, queue_length, RecordsRead, RunStep, KeeperRun, RunsIfDue}
 use Rattle.moka_parts.specs.Housekeeper.{Keeper, MakesRun}
 use Rattle.moka_parts.specs.Housekeeping.{is_due, after_run_due, limit_of_run}

@@ -4,7 +4,6 @@ pub mod NewSteps
 pub mod SendSteps
 pub mod InsertSteps
 pub mod RemoveSteps
-pub mod FindSteps
 pub mod GetSteps
 pub mod PeekSteps
 pub mod RunSteps
@@ -12,11 +11,10 @@ pub mod IdleRuns
 pub mod KeeperSteps
 pub mod HitSteps
 pub mod Registering
-pub mod Passing
 pub mod RestoreSteps
 pub use Rattle.moka_laws.proofs.Copies
-pub use Rattle.moka_parts.proofs.Lookup
-pub use Rattle.moka_parts.proofs.Maps
-pub use Rattle.moka_parts.proofs.Values
+pub use Rattle.moka_records.proofs.Lookup
+pub use Rattle.moka_records.proofs.Maps
+pub use Rattle.moka_records.proofs.Values
 pub use Rattle.moka_laws.proofs.Alike
 pub use Rattle.moka_laws.proofs.Quiet

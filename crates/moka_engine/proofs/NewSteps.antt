@@ -6,7 +6,7 @@ use Rattle.moka_parts.specs.declared.records.Registered.{Registered}
 use Rattle.moka_parts.specs.Housekeeper.{Keeper, new_keeper}
 use Rattle.moka_parts.specs.Policy.{Expirations}
 use Rattle.moka_parts.specs.State.{Settings, new_state}
-use Rattle.moka_parts.proofs.Maps.{nothing_at}
+use Rattle.moka_records.proofs.Maps.{nothing_at}
 use Rattle.moka_laws.proofs.NewCache.{new_is_valid}
 use Rattle.moka_engine.specs.BaseCache.{IsCache, settings_of, state_of}
 use Rattle.moka_inner.specs.Interior.{Interior, nothing_inside}

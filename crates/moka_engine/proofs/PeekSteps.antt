@@ -2,10 +2,10 @@
 use Rattle.std.proofs.Common.{◌≡◌, refl, ℕ, Bool, true, false, true≢false, inl, inr, Option, Some, None, is_some, Result, Ok, Err, ap, sym, subst, ◌∙◌}
 use Rattle.moka_parts.specs.declared.error.OutOfMemory.{OutOfMemory}
 use Rattle.moka_parts.specs.declared.notification.RemovalCause.{RemovalCause}
-use Rattle.moka_parts.specs.declared.policy.Instant.{Instant}
-use Rattle.moka_parts.specs.declared.records.Record.{Record}
+use Rattle.moka_records.specs.declared.instant.Instant.{Instant}
+use Rattle.moka_records.specs.declared.records.Record.{Record}
 use Rattle.moka_parts.specs.Calls.{no_events, IsHit, IsMissed, PeeksAt, PeekStep, ScansAt, after_hit}
-use Rattle.moka_parts.specs.Records.{Records, record_of_key}
+use Rattle.moka_records.specs.Records.{Records, record_of_key}
 use Rattle.moka_parts.specs.Runs.{Engine, Befalls}
 use Rattle.moka_parts.specs.State.{State, is_disabled}
 use Rattle.moka_parts.specs.Visibility.{IsHidden, IsShown}
@@ -13,8 +13,9 @@ use Rattle.moka_laws.proofs.CallsKeep.{found_enabled}
 use Rattle.moka_store.specs.declared.store.Handle.{Handle}
 use Rattle.moka_store.specs.Store.{Kept}
 use Rattle.moka_inner.specs.Interior.{Interior}
-use Rattle.moka_engine.specs.BaseCache.{IsWhole, expirations_of}
-use Rattle.moka_engine.specs.Looks.{Finds, IsFound}
+use Rattle.moka_engine.specs.BaseCache.{IsWhole}
+use Rattle.moka_lookups.specs.Expirations.{expirations_of}
+use Rattle.moka_lookups.specs.Looks.{Finds, IsFound}
 use Rattle.moka_engine.proofs.EngineSteps.{with_inner, cache_with, order_and_hasher, befalls-inside, key-inside}
 use Rattle.moka_laws.proofs.Quiet.{befalls-nothing}
 use Rattle.moka_engine.proofs.GetSteps.{IsNoted, record_read}

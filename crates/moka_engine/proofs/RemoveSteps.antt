@@ -2,8 +2,8 @@
 use Rattle.std.proofs.Common.{◌≡◌, refl, ℕ, ◌+◌, Bool, Option, Some, ap, sym, subst, ◌∙◌}
 use Rattle.std.specs.Cmp.{IsEquivalence}
 use Rattle.std.specs.FinMap.{get, remove}
-use Rattle.moka_parts.specs.declared.records.Operation.TheVariants.{Removal}
-use Rattle.moka_parts.specs.declared.records.Record.{Record}
+use Rattle.moka_records.specs.declared.records.Operation.TheVariants.{Removal}
+use Rattle.moka_records.specs.declared.records.Record.{Record}
 use Rattle.moka_parts.specs.Calls.{handing_out}
 use Rattle.moka_parts.specs.State.{State}
 use Rattle.moka_laws.proofs.CallsKeep.{removal_valid}

@@ -1,24 +1,24 @@
 -- A run of maintenance of the cache, from what applying the queues and the passes make of its inner part.
 use Rattle.std.proofs.Common.{◌≡◌, refl, ℕ, Bool, true, false, List, [], length, min, Option, Some, None, is_some, inl, inr, ap, sym, subst, ◌∙◌, if◌then◌else◌}
 use Rattle.moka_parts.specs.declared.notification.RemovalCause.{RemovalCause}
-use Rattle.moka_parts.specs.declared.policy.Instant.{Instant}
+use Rattle.moka_records.specs.declared.instant.Instant.{Instant}
 use Rattle.moka_parts.specs.declared.records.Registered.{Registered}
 use Rattle.std.specs.FinMap.{get, empty}
-use Rattle.moka_parts.specs.declared.records.Record.{Record}
-use Rattle.moka_parts.specs.Records.{is_applied, is_member, total_weight}
+use Rattle.moka_records.specs.declared.records.Record.{Record}
+use Rattle.moka_records.specs.Records.{is_applied, is_member, total_weight}
 use Rattle.moka_parts.specs.Settling.{IsAllSent, NeverRenewsOnRead}
 use Rattle.moka_parts.specs.Visibility.{is_expired}
 use Rattle.moka_parts.specs.Exact.{IsExact}
 use Rattle.moka_parts.specs.State.{State, is_disabled, with_contents}
 use Rattle.moka_parts.specs.Reads.{after_reads}
-use Rattle.moka_parts.specs.Time.{greatest, has_passed, moment_of}
+use Rattle.moka_records.specs.Time.{greatest, has_passed, moment_of}
 use Rattle.moka_parts.specs.Maintenance as parts
 use Rattle.moka_parts.specs.Maintenance.{Terms, tests_of}
 use Rattle.moka_parts.specs.Calls.{RunStep}
 use Rattle.moka_parts.specs.Surroundings.{Leads}
 use Rattle.moka_parts.specs.Runs.{Engine}
 use Rattle.moka_laws.proofs.AtEnd.{bare_is_exact}
-use Rattle.moka_parts.proofs.Options.{none_by_test}
+use Rattle.moka_records.proofs.Options.{none_by_test}
 use Rattle.moka_laws.proofs.RunReturns.{run_returns, disabled_promised}
 use Rattle.moka_maintenance.specs.declared.sweep.Tests.{Tests}
 use Rattle.moka_maintenance.specs.Steps.{contents_with, stock_in}

@@ -3,7 +3,7 @@ use Rattle.std.proofs.Common.{◌≡◌, ◌↔◌, ℕ, ◌<◌, ◌≤◌, Boo
 use Rattle.std.specs.FinMap.{get, remove}
 use Rattle.moka_parts.specs.declared.error.SendError.{SendError}
 use Rattle.moka_parts.specs.declared.error.SendError.TheVariants.{UnknownTicket, QueueFull}
-use Rattle.moka_parts.specs.declared.records.Operation.{Operation}
+use Rattle.moka_records.specs.declared.records.Operation.{Operation}
 use Rattle.moka_parts.specs.declared.notification.RemovalCause.{RemovalCause}
 use Rattle.moka_parts.specs.Calls.{no_events, queue_length, SendsAt, SendStep}
 use Rattle.moka_parts.specs.Runs.{Engine, Befalls}

@@ -2,17 +2,17 @@
 use Rattle.std.proofs.Common.{◌≡◌, refl, ℕ, ◌+◌, ◌≤◌, Bool, true, false, true≢false, ◌==◌, Option, Some, None, is_some, inl, inr, ap, sym, ◌∙◌, arith}
 use Rattle.std.specs.FinMap.{FinMap, get, insert, remove}
 use Rattle.std.specs.Ordering.{nat_cmp}
-use Rattle.moka_parts.specs.declared.policy.Instant.{Instant}
-use Rattle.moka_parts.specs.declared.records.Record.{Record}
+use Rattle.moka_records.specs.declared.instant.Instant.{Instant}
+use Rattle.moka_records.specs.declared.records.Record.{Record}
 use Rattle.moka_parts.specs.Expiry.{answer_to_hit, remaining, renewed}
-use Rattle.moka_parts.specs.Records.{Records, counted_of, is_applied}
+use Rattle.moka_records.specs.Records.{Records, counted_of, is_applied}
 use Rattle.moka_parts.specs.Settling.{IsConsistentState, IsTracked, IsWaiting, NeverRenews}
 use Rattle.moka_parts.specs.State.{State, Settings, keeps_write_list}
-use Rattle.moka_parts.specs.Time.{is_same_duration, moment_of}
-use Rattle.moka_parts.proofs.Maps.{itself_tested, nothing_at}
+use Rattle.moka_records.specs.Time.{is_same_duration, moment_of}
+use Rattle.moka_records.proofs.Maps.{itself_tested, nothing_at}
 use Rattle.moka_store.specs.Store.{Kept}
-use Rattle.moka_store.specs.Updates.{updated}
-use Rattle.moka_store.specs.declared.store.Update.{Update}
+use Rattle.moka_table.specs.Updates.{updated}
+use Rattle.moka_table.specs.declared.table.Update.{Update}
 use Rattle.moka_store.proofs.Gets.{after_insert, after_remove}
 use Rattle.moka_maintenance.specs.Timers.{AreTimed, KeepsTimers}
 use Rattle.moka_maintenance.proofs.Timing.{still-timed}

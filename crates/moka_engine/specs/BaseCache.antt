@@ -1,20 +1,17 @@
 -- What always holds of a cache, and how its parts make the state that contracts see.
-use Rattle.std.specs.Prelude.{◌≡◌, ℕ, Bool, true, false, List, [], Option, Some, None, is_some}
-use Rattle.std.specs.FinMap.{get}
+use Rattle.std.specs.Prelude.{◌≡◌, ℕ, Bool, true, false, List, [], Option, None, is_some}
 use Rattle.moka_parts.specs.declared.policy.EvictionPolicy.{EvictionPolicy}
-use Rattle.moka_parts.specs.declared.policy.EvictionPolicy.TheVariants.{Lru}
-use Rattle.moka_parts.specs.declared.policy.Instant.{Instant}
-use Rattle.moka_parts.specs.declared.records.Record.{Record}
+use Rattle.moka_records.specs.declared.instant.Instant.{Instant}
 use Rattle.moka_parts.specs.declared.records.Registered.{Registered}
 use Rattle.moka_parts.specs.Housekeeper.{Keeper}
 use Rattle.moka_parts.specs.Policy.{Expirations}
-use Rattle.moka_parts.specs.Records.{Records}
 use Rattle.moka_parts.specs.Settling.{IsValid, NeverRenews}
 use Rattle.moka_parts.specs.Runs.{Engine}
 use Rattle.moka_parts.specs.State.{State, Settings, keeps_write_list, new_state}
 use Rattle.moka_store.specs.Store.{Kept}
 use Rattle.moka_maintenance.specs.Timers.{AreTimed}
 use Rattle.moka_inner.specs.Interior.{Interior}
+use Rattle.moka_lookups.specs.Expirations.{NoneExpires}
 
 -- what never changes
 abbrev pub settings_of : {X W : Type 0} → EvictionPolicy → Expirations X → Option W → Bool → Keeper → Settings X W
@@ -65,30 +62,6 @@ empty_engine name hasher settings capacity now first_ticket listener room = reco
   passes = 0;
   room = room;
 }
-
--- which of the settings let records expire
-abbrev pub expirations_of : {X W : Type 0} → Settings X W → Expirations X
-expirations_of settings =
-    record { time_to_live = settings.time_to_live; time_to_idle = settings.time_to_idle; expiry = settings.expiry }
-
--- settings of which only these are set
-abbrev pub expiring_by : {X : Type 0} → Expirations X → Settings X (Unit {0})
-expiring_by x = record {
-  policy = Lru;
-  time_to_live = x.time_to_live;
-  time_to_idle = x.time_to_idle;
-  expiry = x.expiry;
-  weigher = None;
-  listening = false;
-  invalidator = false;
-  run_limit = 0;
-  run_repeats = 0;
-  run_batch = 0;
-}
-
--- no record has an expiry of its own
-abbrev pub NoneExpires : {K V : Type 0} → Records K V → Type 0
-NoneExpires records = (n : ℕ) (r : Record _ _) → get records n ≡ Some r → r.expires ≡ None
 
 -- where predicates are not supported none is registered, and without an expiry no record has one of its own
 pub record IsServed {K V X P W : Type 0} (s : State K V X P W) : Type 0 where

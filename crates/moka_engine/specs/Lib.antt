@@ -1,13 +1,12 @@
 pub mod BaseCache
 pub mod Config
 pub mod Looks
-pub mod Plans
-pub mod Sights
-pub mod Snapshots
-pub mod Restores
 pub mod Makes
 pub mod parts
-pub use Rattle.moka_parts.specs.Time
+pub use Rattle.moka_lookups.specs.Sights
+pub use Rattle.moka_lookups.specs.Snapshots
+pub use Rattle.moka_parts.specs.Restores
+pub use Rattle.moka_records.specs.Time
 pub use Rattle.moka_parts.specs.Policy
 pub use Rattle.moka_parts.specs.Records
 pub use Rattle.moka_parts.specs.Surroundings
@@ -39,4 +38,4 @@ pub use Rattle.moka_parts.specs.Laws
 pub use Rattle.moka_parts.specs.Drives
 pub use Rattle.moka_parts.specs.Texts
 pub use Rattle.moka_parts.specs.KeyTests
-pub use Rattle.moka_parts.specs.Hashing
+pub use Rattle.moka_records.specs.Hashing

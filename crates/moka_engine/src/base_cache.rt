@@ -2,13 +2,14 @@
 ghost use Rattle.std.specs.Prelude.{◌≡◌, ◌≤◌, ◌||◌, true, false, length, is_some, List, Option, Some, None, Ok, Err, IfOk, IfErr, option_map, option_copied, unwrap_or};
 ghost use Rattle.std.specs.List.{AllZip};
 ghost use Rattle.std.specs.String.{string_bytes};
-ghost use Rattle.moka_parts.specs.Hashing.{key_hash};
+ghost use Rattle.moka_records.specs.Hashing.{key_hash};
 ghost use Rattle.moka_parts.specs.Calls.{entry_of, no_events, only_notices, CapacityStep, InsertStep, SendStep, RemoveStep, ContainsStep, KeysStep};
 ghost use Rattle.moka_parts.specs.Copies.{HandsOut, IsCopy, IsEntryCopy, NotifiesOfCopy};
 ghost use Rattle.moka_parts.specs.Housekeeper.{new_keeper};
 ghost use Rattle.moka_parts.specs.KeyTests.{ContainsByStep, RemoveByStep};
 ghost use Rattle.moka_parts.specs.Order.{IsWriteList};
-ghost use Rattle.moka_parts.specs.Records.{Notice, record_of_key};
+ghost use Rattle.moka_parts.specs.Notices.{Notice};
+ghost use Rattle.moka_records.specs.Records.{record_of_key};
 ghost use Rattle.moka_parts.specs.Runs.{Befalls};
 ghost use Rattle.moka_parts.specs.Settling.{IsValid};
 ghost use Rattle.moka_parts.specs.State.{Events, is_disabled, keeps_write_list, limits_of};
@@ -16,12 +17,14 @@ ghost use Rattle.moka_parts.specs.Surroundings.{Leads};
 ghost use Rattle.moka_store.specs.Hashing.{IsIndexHash};
 ghost use Rattle.moka_parts.specs.declared.calls.Call.TheVariants as call;
 ghost use Rattle.moka_parts.specs.declared.calls.Reply.TheVariants as reply;
-ghost use Rattle.moka_engine.specs.BaseCache.{IsServed, empty_engine, expirations_of, settings_of};
+ghost use Rattle.moka_engine.specs.BaseCache.{IsServed, empty_engine, settings_of};
+ghost use Rattle.moka_lookups.specs.Expirations.{expirations_of};
 ghost use Rattle.moka_engine.specs.Makes.{Makes, meaning};
 
-use self::gets::Moments;
-use self::inserts::Plan;
 use moka_inner::{Hashes, Inner, Layout};
+use moka_lookups::causes;
+use moka_lookups::gets::{self, Moments};
+use moka_lookups::inserts::{self, Plan};
 use moka_parts::calls::{Entry, KvEntry, Ticket};
 use moka_parts::closures::{NoTest, PredicateFn, Weigher};
 use moka_parts::error::{CapacityError, InsertRefused, OutOfMemory, SendError};
@@ -37,20 +40,17 @@ use std::hash::{BuildHasher, Hash};
 use std::marker::Model;
 
 mod by_key_test;
-mod causes;
-mod gets;
-mod inserts;
+mod hits;
 mod invalidation;
 mod looks;
 mod reports;
 mod restores;
 mod runs;
 mod sights;
-mod snapshot;
 
-pub use restores::{RestoreError, RestoreRefused, Restored};
-pub use sights::Sight;
-pub use snapshot::{Snapshot, SnapshotEntry};
+pub use moka_lookups::sights::Sight;
+pub use moka_lookups::snapshot::{Snapshot, SnapshotEntry};
+pub use moka_parts::restores::{RestoreError, RestoreRefused, Restored};
 
 // How many segments the map has.
 const SEGMENTS: usize = 1;
@@ -400,7 +400,7 @@ impl<
                 valid_after: &self.valid_after,
                 now,
             };
-            inserts::plan_for(&self.inner, &moments, &key, hashes.own, &value)
+            inserts::plan_for(self.inner.store(), &moments, &key, hashes.own, &value)
         };
         match plan {
             Plan::New(expires) => {
@@ -557,7 +557,7 @@ impl<
         ensures { ContainsByStep P.says (T.passes test.now) self.now.state now.0 result }
     {
         let moments = self.moments(now);
-        gets::find_shown(&self.inner, &moments, &self.invalidator, (test, own)).is_some()
+        gets::find_shown(self.inner.store(), &moments, &self.invalidator, (test, own)).is_some()
     }
 
     // What hides records at the moment `now`, but for predicates.

@@ -8,19 +8,20 @@ use Rattle.std.proofs.lemmas.Bool.{ltb-true}
 use Rattle.std.proofs.lemmas.List.Elements.{Contains-append_left, Contains-append_right, Contains-append_cases, Contains-push}
 use Rattle.moka_parts.specs.declared.policy.EvictionPolicy.{EvictionPolicy}
 use Rattle.moka_parts.specs.declared.policy.EvictionPolicy.TheVariants.{Lru, TinyLfu}
-use Rattle.moka_parts.specs.declared.records.Member.{Member}
-use Rattle.moka_parts.specs.declared.records.Operation.{Operation}
-use Rattle.moka_parts.specs.declared.records.Operation.TheVariants.{Upsert, Removal}
-use Rattle.moka_parts.specs.declared.records.Record.{Record}
-use Rattle.moka_parts.specs.declared.records.Ticketed.{Ticketed}
+use Rattle.moka_records.specs.declared.records.Member.{Member}
+use Rattle.moka_records.specs.declared.records.Operation.{Operation}
+use Rattle.moka_records.specs.declared.records.Operation.TheVariants.{Upsert, Removal}
+use Rattle.moka_records.specs.declared.records.Record.{Record}
+use Rattle.moka_records.specs.declared.records.Ticketed.{Ticketed}
 use Rattle.moka_parts.specs.Candidates.{victims_for, is_preferred}
 use Rattle.moka_parts.specs.Maintenance.{Freedom, AreFree, after_queued_reads, before_steps, at_end, left_in_run, left_by_choices}
-use Rattle.moka_parts.specs.Records.{Records, Notice, counted_of, has_room, is_member, total_weight}
+use Rattle.moka_records.specs.Records.{Records, counted_of, has_room, is_member, total_weight}
+use Rattle.moka_parts.specs.Notices.{Notice}
 use Rattle.moka_parts.specs.Settling.{IsSound, IsTracked, IsValid, IsWaiting}
 use Rattle.moka_parts.specs.State.{State, Contents, contents}
 use Rattle.moka_parts.specs.Visibility.{IsVisible}
 use Rattle.moka_parts.specs.Writes.{Fate, Ignored, Overtaken, Counted, Admitted, TooHeavy, Preferred, Refused, fate, fate_by_frequency, fate_by_policy, fate_of_newcomer, fate_of_record, with_applied, without_records, with_moved, rejected, after_fate, after_write, after_writes, leaves_for_size, left_with, left_by_rejection, left_by_fate, left_by_write, left_by_writes}
-use Rattle.moka_parts.proofs.Maps.{same_by_test, same_or_apart, apart_below, get_inserted, get_past_insert, get_past_remove}
+use Rattle.moka_records.proofs.Maps.{same_by_test, same_or_apart, apart_below, get_inserted, get_past_insert, get_past_remove}
 use Rattle.moka_laws.proofs.RunKeeps.{reads_keep}
 use Rattle.moka_laws.proofs.Scanned.{not_one_covers}
 use Rattle.moka_explain.specs.Grounds.{evicts, is_heavy, is_refused, taken_by_write, taken_by_writes, taken_in_run, HasGround}

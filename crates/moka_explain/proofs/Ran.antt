@@ -3,7 +3,7 @@ use Rattle.std.proofs.Common.{◌≡◌, ℕ, Bool, true, false, List, [], ◌�
 use Rattle.std.specs.Duration.{as_nanos}
 use Rattle.std.specs.FinMap.{get}
 use Rattle.moka_parts.specs.declared.calls.Reply.{Reply}
-use Rattle.moka_parts.specs.declared.records.Record.{Record}
+use Rattle.moka_records.specs.declared.records.Record.{Record}
 use Rattle.moka_parts.specs.declared.calls.Call.TheVariants as call
 use Rattle.moka_parts.specs.declared.calls.Reply.TheVariants as reply
 use Rattle.moka_parts.specs.Calls.{KeeperRun, Unchanged, keeper_terms}
@@ -11,7 +11,8 @@ use Rattle.moka_parts.specs.Drives.{Drives}
 use Rattle.moka_parts.specs.Housekeeping.{is_due}
 use Rattle.moka_parts.specs.Maintenance.{Freedom, Terms, Course, DoesNothing, RunsBy, at_end}
 use Rattle.moka_parts.specs.Runs.{Engine, CallStep, PromisedRun, AreSteps, calls_of, last_state}
-use Rattle.moka_parts.specs.Records.{Records, Notice}
+use Rattle.moka_records.specs.Records.{Records}
+use Rattle.moka_parts.specs.Notices.{Notice}
 use Rattle.moka_parts.specs.Settling.{IsValid}
 use Rattle.moka_parts.specs.State.{State, Events, is_disabled}
 use Rattle.moka_parts.specs.Visibility.{IsVisible}

@@ -5,15 +5,16 @@ use Rattle.std.specs.FinMap as finite
 use Rattle.std.proofs.lemmas.List.Elements.{Contains-append_left, Contains-append_right, Contains-append_cases, Contains-push}
 use Rattle.moka_parts.specs.declared.notification.RemovalCause.{RemovalCause}
 use Rattle.moka_parts.specs.declared.notification.RemovalCause.TheVariants.{Size, Expired, Explicit, Replaced}
-use Rattle.moka_parts.specs.declared.records.Member.{Member}
-use Rattle.moka_parts.specs.declared.records.Record.{Record}
+use Rattle.moka_records.specs.declared.records.Member.{Member}
+use Rattle.moka_records.specs.declared.records.Record.{Record}
 use Rattle.moka_parts.specs.declared.records.Registered.{Registered}
 use Rattle.moka_parts.specs.Maintenance.{Choice, Removes, MovesToBack, Drops, AreJustified, HasCause, after_choice, after_choices, left_by_choice, left_by_choices, tests_of}
-use Rattle.moka_parts.specs.Records.{Records, Notice}
+use Rattle.moka_records.specs.Records.{Records}
+use Rattle.moka_parts.specs.Notices.{Notice}
 use Rattle.moka_parts.specs.State.{State, Contents}
 use Rattle.moka_parts.specs.Visibility.{Covers, SomeCovers, has_lapsed, is_expired, is_past_live, is_past_idle, is_written_before, is_read_before}
 use Rattle.moka_parts.specs.Writes.{without_records, leaves_for_size, left_with}
-use Rattle.moka_parts.proofs.Maps.{same_or_apart, get_past_remove}
+use Rattle.moka_records.proofs.Maps.{same_or_apart, get_past_remove}
 
 -- ---- records that stay, but for the applied generation, or leave to make room
 

@@ -4,8 +4,8 @@ use Rattle.std.specs.List.{AllByRecursion}
 use Rattle.std.specs.List.Sorted.{IsNonDecreasing}
 use Rattle.std.specs.FinMap.{get, values}
 use Rattle.moka_parts.specs.declared.calls.Call.TheVariants as call
-use Rattle.moka_parts.specs.declared.policy.Instant.{Instant}
-use Rattle.moka_parts.specs.declared.records.Record.{Record}
+use Rattle.moka_records.specs.declared.instant.Instant.{Instant}
+use Rattle.moka_records.specs.declared.records.Record.{Record}
 use Rattle.moka_parts.specs.Maintenance.{Freedom, AreFree, at_end, left_in_run}
 use Rattle.moka_parts.specs.State.{State}
 use Rattle.moka_parts.specs.Visibility.{IsVisible}

@@ -2,11 +2,12 @@
 use Rattle.std.specs.Prelude.{◌≡◌, ℕ, Bool, true, false, List, [], ◌∷◌, ◌++◌, Option, Contains, ◌⊎◌, if◌then◌else◌}
 use Rattle.moka_parts.specs.declared.policy.EvictionPolicy.{EvictionPolicy}
 use Rattle.moka_parts.specs.declared.policy.EvictionPolicy.TheVariants.{TinyLfu}
-use Rattle.moka_parts.specs.declared.records.Operation.{Operation}
-use Rattle.moka_parts.specs.declared.records.Record.{Record}
-use Rattle.moka_parts.specs.declared.records.Ticketed.{Ticketed}
+use Rattle.moka_records.specs.declared.records.Operation.{Operation}
+use Rattle.moka_records.specs.declared.records.Record.{Record}
+use Rattle.moka_records.specs.declared.records.Ticketed.{Ticketed}
 use Rattle.moka_parts.specs.Maintenance.{Freedom, after_queued_reads, before_steps, left_by_choices}
-use Rattle.moka_parts.specs.Records.{Notice, has_room, is_applied}
+use Rattle.moka_parts.specs.Notices.{Notice}
+use Rattle.moka_records.specs.Records.{has_room, is_applied}
 use Rattle.moka_parts.specs.State.{State, Contents}
 use Rattle.moka_parts.specs.Writes.{Fate, TooHeavy, Preferred, Refused, fate, after_write, left_by_write, leaves_for_size}
 

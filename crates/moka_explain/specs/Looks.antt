@@ -1,6 +1,6 @@
 -- What is known of a key at a moment.
 use Rattle.std.specs.Prelude.{◌≡◌, ℕ, nat_eq, option_map}
-use Rattle.moka_parts.specs.Records.{is_applied, record_of_key}
+use Rattle.moka_records.specs.Records.{is_applied, record_of_key}
 use Rattle.moka_engine.specs.Sights.{IsSight}
 use Rattle.moka_play.specs.Played.{ScriptState, script_meaning}
 use Rattle.moka_explain.specs.declared.look.Look.{Look}

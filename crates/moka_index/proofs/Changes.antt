@@ -8,11 +8,12 @@ use Rattle.std.specs.Ordering.{nat_cmp}
 use Rattle.std.proofs.lemmas.Option.{same_Some}
 use Rattle.moka_index.specs.declared.group.Group.{Group}
 use Rattle.moka_index.specs.Group.{lane_hash, lane_place, entry_in, with_entry, without_lane, raised, home, HasLanes}
-use Rattle.moka_index.specs.EntryMap.{upto}
+use Rattle.moka_links.specs.EntryMap.{upto}
 use Rattle.moka_index.specs.Groups.{entry_at, group_at, pushed, with_reach, probe, distance, entries_of, IsShaped, IsReached, IsGroups, IsExactAt, AreExactBut, IsTight}
 use Rattle.moka_index.proofs.Probes.{distance-probe}
 use Rattle.moka_index.proofs.Lanes.{blank, group-read, entry-here, entry-free, entry-below, with-here, with-other, with-lanes, without-last, without-here, without-other, without-lanes, group-set, group-past_set, entry-inside, entry-at_lane, lane-group}
-use Rattle.moka_index.proofs.Maps.{Becomes, becomes-inserted, becomes-removed, becomes-same, has-upto, found-upto, len-full}
+use Rattle.moka_index.proofs.Maps.{Becomes, becomes-inserted, becomes-removed, becomes-same}
+use Rattle.moka_links.proofs.EntryMaps.{has-upto, found-upto, len-full}
 
 pub lanes-of : (groups : List Group) → IsGroups groups → (i : ℕ) → HasLanes (group_at groups i)
 lanes-of groups g i = (g.shaped i).lanes

@@ -5,10 +5,10 @@ use Rattle.std.proofs.lemmas.List.{get_or-replicate, get_or_past, length-replica
 use Rattle.std.specs.FinMap.{get, insert, empty, len}
 use Rattle.moka_index.specs.declared.group.Group.{Group}
 use Rattle.moka_index.specs.Group.{empty_group, lane_hash, lane_place, entry_in}
-use Rattle.moka_index.specs.EntryMap.{put_entry, upto}
+use Rattle.moka_links.specs.EntryMap.{put_entry, upto}
 use Rattle.moka_index.specs.Groups.{entry_at, group_at, entries_of, IsShaped, IsGroups, IsTight}
 use Rattle.moka_index.proofs.Lanes.{entry-here, entry-free, entry-empty}
-use Rattle.moka_index.proofs.Maps.{upto-free, upto-fresh, len-mono}
+use Rattle.moka_links.proofs.EntryMaps.{upto-free, upto-fresh, len-mono}
 
 pub blank-group : (n i : ℕ) → group_at (replicate n empty_group) i ≡ empty_group
 blank-group n i = elim (cases_lt i n) as (λ _. group_at (replicate n empty_group) i ≡ empty_group) [

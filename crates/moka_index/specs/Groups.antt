@@ -4,7 +4,7 @@ use Rattle.std.specs.FinMap as finite
 use Rattle.std.specs.FinMap.{FinMap}
 use Rattle.std.specs.Ordering.{nat_cmp}
 use Rattle.moka_index.specs.declared.group.Group.{Group}
-use Rattle.moka_index.specs.EntryMap.{upto, IsApart}
+use Rattle.moka_links.specs.EntryMap.{upto, IsApart}
 use Rattle.moka_index.specs.Group.{home, empty_group, entry_in, with_entry, raised, HasLanes}
 
 -- ---- round the table

@@ -1,4 +1,3 @@
-pub mod EntryMap
 pub mod Group
 pub mod Groups
 pub mod PlaceIndex

@@ -7,23 +7,23 @@ use Rattle.std.proofs.lemmas.Bool.{cases_eq}
 use Rattle.std.specs.FinMap.{FinMap, get, insert, remove, len, empty, get-empty, len-empty}
 use Rattle.std.specs.Ordering.{nat_cmp}
 use Rattle.circular_buffer.specs.Buffer.{Buffer, buffer}
-use Rattle.moka_parts.specs.declared.records.Operation.{Operation}
-use Rattle.moka_parts.specs.declared.records.Operation.TheVariants.{Removal}
-use Rattle.moka_parts.specs.declared.records.Record.{Record}
-use Rattle.moka_parts.specs.declared.records.ReadOperation.{ReadOperation}
-use Rattle.moka_parts.specs.declared.records.ReadOperation.TheVariants.{Hit, Miss}
-use Rattle.moka_parts.specs.declared.records.Ticketed.{Ticketed}
+use Rattle.moka_records.specs.declared.records.Operation.{Operation}
+use Rattle.moka_records.specs.declared.records.Operation.TheVariants.{Removal}
+use Rattle.moka_records.specs.declared.records.Record.{Record}
+use Rattle.moka_records.specs.declared.records.ReadOperation.{ReadOperation}
+use Rattle.moka_records.specs.declared.records.ReadOperation.TheVariants.{Hit, Miss}
+use Rattle.moka_records.specs.declared.records.Ticketed.{Ticketed}
 use Rattle.moka_parts.specs.declared.notification.RemovalCause.{RemovalCause}
 use Rattle.moka_parts.specs.declared.policy.EvictionPolicy.{EvictionPolicy}
 use Rattle.moka_parts.specs.Calls.{queue_length}
-use Rattle.moka_parts.specs.Records.{Records}
+use Rattle.moka_records.specs.Records.{Records}
 use Rattle.moka_parts.specs.Settling.{number_of, IsWaitingIn}
 use Rattle.moka_parts.specs.Maintenance.{Choice}
 use Rattle.moka_parts.specs.State.{Contents}
 use Rattle.moka_laws.proofs.RunKeeps.{Keeps, keeps_writes, keeps_choices}
-use Rattle.moka_parts.proofs.Values.{len_removed, remove_absent}
+use Rattle.moka_records.proofs.Values.{len_removed, remove_absent}
 use Rattle.moka_laws.proofs.Waiting.{hands_out, waits_sent}
-use Rattle.moka_structures.specs.Pending.{Pending}
+use Rattle.moka_tickets.specs.Pending.{Pending}
 use Rattle.moka_store.specs.Store.{Kept}
 use Rattle.moka_store.proofs.Gets.{after_insert, after_remove, get-inserted, get-past_insert, get-past_remove, len-inserted, len-kept, option-cases}
 use Rattle.moka_maintenance.proofs.Popped.{nothing_there}

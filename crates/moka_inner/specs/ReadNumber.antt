@@ -1,10 +1,10 @@
 -- The number of a record that was found, and may have left the map since.
 use Rattle.std.specs.Prelude.{◌≡◌, ℕ, Bool, ◌<◌, List, Some}
 use Rattle.std.specs.FinMap.{get}
-use Rattle.moka_parts.specs.declared.records.Operation.TheVariants.{Removal}
-use Rattle.moka_parts.specs.declared.records.Record.{Record}
-use Rattle.moka_parts.specs.declared.records.Ticketed.{Ticketed}
-use Rattle.moka_parts.specs.Records.{Records, Operations, record_of_key}
+use Rattle.moka_records.specs.declared.records.Operation.TheVariants.{Removal}
+use Rattle.moka_records.specs.declared.records.Record.{Record}
+use Rattle.moka_records.specs.declared.records.Ticketed.{Ticketed}
+use Rattle.moka_records.specs.Records.{Records, Operations, record_of_key}
 use Rattle.moka_parts.specs.Settling.{IsWaitingIn}
 
 -- the number is that of the key's record, which a caller's removal did not take out

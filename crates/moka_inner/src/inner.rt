@@ -2,18 +2,17 @@
 ghost use Rattle.std.specs.Prelude.{◌≡◌, ◌+◌, ◌^◌, ◌<◌, ◌≤◌, ◌↔◌, true, [], ◌∷◌, ◌++◌, None, Some, Ok, Err, OnOk, OnErr, IfOk, IfSome, IsOk, if◌then◌else◌, length, nat_lt, option_map, slice_get};
 ghost use Rattle.std.specs.Duration.{as_nanos};
 ghost use Rattle.std.specs.FinMap as finite;
-ghost use Rattle.moka_parts.specs.Hashing.{key_hash};
+ghost use Rattle.moka_records.specs.Hashing.{key_hash};
 ghost use Rattle.moka_parts.specs.Calls.{queue_length};
-ghost use Rattle.moka_parts.specs.Order.{IsListOf};
+ghost use Rattle.moka_records.specs.Records.{IsListOf, record_of_key, total_weight, with_record};
 ghost use Rattle.moka_parts.specs.Reads.{after_reads};
-ghost use Rattle.moka_parts.specs.Records.{record_of_key, total_weight, with_record};
 ghost use Rattle.moka_parts.specs.declared.error.InsertError.TheVariants.{NumbersUsedUp};
-ghost use Rattle.moka_parts.specs.declared.records.Operation.{Operation};
-ghost use Rattle.moka_parts.specs.declared.records.Operation.TheVariants.{Upsert, Removal};
-ghost use Rattle.moka_parts.specs.declared.records.Record.{Record};
+ghost use Rattle.moka_records.specs.declared.records.Operation.{Operation};
+ghost use Rattle.moka_records.specs.declared.records.Operation.TheVariants.{Upsert, Removal};
+ghost use Rattle.moka_records.specs.declared.records.Record.{Record};
 ghost use Rattle.moka_store.specs.Hashing.{IsIndexHash};
 ghost use Rattle.moka_store.specs.Store.{AreKeysOf, ChangesRecord, ExpiresAsBefore, IsHandle};
-ghost use Rattle.moka_store.specs.Updates.{updated};
+ghost use Rattle.moka_table.specs.Updates.{updated};
 ghost use Rattle.moka_maintenance.specs.Passes.{IsRan};
 ghost use Rattle.moka_maintenance.specs.Queues.{ArePrepared};
 ghost use Rattle.moka_maintenance.specs.Steps.{contents_with, stock_in};
@@ -37,13 +36,13 @@ use moka_parts::record_ref::RecordRef;
 use moka_parts::records::{Operation, ReadOperation, Record};
 use moka_sketch::frequency_sketch::FrequencySketch;
 use moka_store::{Handle, IndexHash, MOST_PLACES, Store, Update};
-use moka_structures::outstanding::Outstanding;
+use moka_tickets::outstanding::Outstanding;
 use std::alloc::{AllocError, Global};
 use std::hash::{BuildHasher, Hash};
 use std::marker::Model;
 
 mod by_key_test;
-mod members;
+mod restores;
 
 // How many operations and how many reads can be queued. moka: `WRITE_LOG_SIZE`, `READ_LOG_SIZE`.
 const QUEUE_SIZE: usize = 384;
@@ -159,6 +158,14 @@ impl<K: Eq + Hash, V, S: BuildHasher> Inner<K, V, S> {
         ensures { self.now.kept.ordered ≡ true → IsListOf self.now.kept.access self.now.kept.written }
     {
         self.store.invariant_holds();
+    }
+
+    /// The store, for look-ups.
+    #[inline(always)]
+    pub fn store(&self) -> &Store<K, V, S>
+        ensures { result.now ≡ self.now.kept }
+    {
+        &self.store
     }
 
     /// The hash of a key by the store's hasher.

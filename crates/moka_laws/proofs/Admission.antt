@@ -4,7 +4,7 @@ use Rattle.std.proofs.lemmas.Bool.{and_parts, eqb-true}
 use Rattle.std.proofs.lemmas.List.Sums.{sum_by-cons}
 use Rattle.std.specs.Bool.{passes}
 use Rattle.moka_laws.proofs.Types.{Member, Contents, Preferred, Refused}
-use Rattle.moka_parts.specs.Records.{total_weight}
+use Rattle.moka_records.specs.Records.{total_weight}
 use Rattle.moka_parts.specs.Frequency.{frequency}
 use Rattle.moka_parts.specs.Candidates.{prefix, victims_for, is_preferred, frequency_of_all}
 use Rattle.moka_parts.specs.Writes.{fate_by_frequency}

@@ -3,14 +3,14 @@
 use Rattle.std.proofs.Common.{◌≡◌, refl, ℕ, ◌+◌, ◌≤◌, Bool, true, false, ◌==◌, ◌||◌, min, nat_le, List, [], ◌∷◌, ◌++◌, map, Option, Some, None, is_some, ap, sym, ◌∙◌, subst, arith, true≢false, if◌then◌else◌}
 use Rattle.std.specs.FinMap.{get}
 use Rattle.moka_laws.proofs.Types.{Record, Operation, Upsert, Removal, State, Freedom}
-use Rattle.moka_parts.specs.Time.{greatest, deadline, has_passed, is_before, moment_of}
-use Rattle.moka_parts.specs.Records.{counted_of, is_member, is_applied, is_listed}
+use Rattle.moka_records.specs.Time.{greatest, deadline, has_passed, is_before, moment_of}
+use Rattle.moka_records.specs.Records.{counted_of, is_member, is_applied, is_listed}
 use Rattle.moka_parts.specs.State.{keeps_write_list}
 use Rattle.moka_parts.specs.Visibility.{is_past_live, is_written_before}
 use Rattle.moka_parts.specs.Maintenance.{AreFree, after_run, tests_of}
 use Rattle.moka_parts.specs.Settling.{IsSound, IsConsistent, IsConsistentState, IsWaitingIn, AreRising, IsAllSent}
 use Rattle.moka_parts.specs.Order.{waiting_by_ticket, IsInOrder, write_list_at_end, IsAtRestByWrite}
-use Rattle.moka_parts.proofs.Maps.{same_by_test, itself_tested}
+use Rattle.moka_records.proofs.Maps.{same_by_test, itself_tested}
 use Rattle.moka_laws.proofs.RunKeepsSound.{run_kept}
 use Rattle.moka_laws.proofs.AtEnd.{nothing_waits, all_applied}
 use Rattle.moka_laws.proofs.Rises.{Rises}

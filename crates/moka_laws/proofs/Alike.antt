@@ -2,10 +2,11 @@
 use Rattle.std.proofs.Common.{◌≡◌, refl, ℕ, Bool, true, false, List, [], length, Option, Some, None, Result, Ok, Err, ap, sym, subst, ◌∙◌, MatchBool}
 use Rattle.moka_parts.specs.declared.calls.Entry.{Entry}
 use Rattle.moka_parts.specs.declared.error.OutOfMemory.{OutOfMemory}
-use Rattle.moka_parts.specs.declared.records.Record.{Record}
-use Rattle.moka_parts.specs.declared.records.ReadOperation.{ReadOperation}
-use Rattle.moka_parts.specs.declared.records.ReadOperation.TheVariants.{Miss}
-use Rattle.moka_parts.specs.Records.{Notice, record_of_key}
+use Rattle.moka_records.specs.declared.records.Record.{Record}
+use Rattle.moka_records.specs.declared.records.ReadOperation.{ReadOperation}
+use Rattle.moka_records.specs.declared.records.ReadOperation.TheVariants.{Miss}
+use Rattle.moka_parts.specs.Notices.{Notice}
+use Rattle.moka_records.specs.Records.{record_of_key}
 use Rattle.moka_parts.specs.State.{State, Events, is_disabled}
 use Rattle.moka_parts.specs.Housekeeping.{is_due}
 use Rattle.moka_parts.specs.Maintenance.{Terms, Course}

@@ -2,10 +2,10 @@
 use Rattle.std.proofs.Common.{◌≡◌, refl, ℕ, ◌<◌, ◌≤◌, Bool, true, false, ◌==◌, List, [], ◌∷◌, ◌++◌, Option, Some, None, ◌⊎◌, inl, inr, arith, if◌then◌else◌}
 use Rattle.std.specs.FinMap.{get, insert, remove}
 use Rattle.moka_laws.proofs.Types.{Record, Member, Operation, Upsert, Removal, Records}
-use Rattle.moka_parts.specs.Records.{member, counted_of, without_member, numbers_of}
+use Rattle.moka_records.specs.Records.{member, counted_of, without_member, numbers_of}
 use Rattle.moka_parts.specs.Settling.{IsTracked, IsSound, IsConsistent}
-use Rattle.moka_parts.proofs.Maps.{get_inserted, get_past_insert, get_removed, get_past_remove, AreApart}
-use Rattle.moka_parts.proofs.AccessList.{counted_taken_out, counted_past_taken_out, counted_pushed, counted_past_pushed, distinct_taken_out, distinct_pushed}
+use Rattle.moka_records.proofs.Maps.{get_inserted, get_past_insert, get_removed, get_past_remove, AreApart}
+use Rattle.moka_records.proofs.AccessList.{counted_taken_out, counted_past_taken_out, counted_pushed, counted_past_pushed, distinct_taken_out, distinct_pushed}
 use Rattle.moka_laws.proofs.Waiting.{TakesIn}
 use Rattle.moka_laws.proofs.Consistent.{consistent_after, alike_taking}
 use Rattle.std.specs.List.{IsDistinct}

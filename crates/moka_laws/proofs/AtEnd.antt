@@ -7,14 +7,14 @@ use Rattle.std.proofs.lemmas.List.Elements.{Contains-append_left, Contains-push}
 use Rattle.std.proofs.lemmas.List.Sorted.{IsPermutation-map, Contains-permutation}
 use Rattle.std.specs.FinMap.{get, remove, empty, values, entries, len, len-entries, get-empty}
 use Rattle.moka_laws.proofs.Types.{Record, Member, Operation, Upsert, Removal, Records, Operations, State, Freedom}
-use Rattle.moka_parts.specs.Time.{greatest}
-use Rattle.moka_parts.specs.Records.{counted_of, is_applied, is_member, is_settled, total_weight}
+use Rattle.moka_records.specs.Time.{greatest}
+use Rattle.moka_records.specs.Records.{counted_of, is_applied, is_member, is_settled, total_weight}
 use Rattle.moka_parts.specs.Maintenance.{after_run, at_end}
 use Rattle.moka_parts.specs.Exact.{AreExactMembers, IsExact}
 use Rattle.moka_parts.specs.Settling.{number_of, IsSound, IsConsistent, IsConsistentState, IsWaitingIn, IsBare, IsAllSent, IsTracked}
 use Rattle.moka_parts.specs.Laws.{EndsExact, IsNear, CountsNearly}
-use Rattle.moka_parts.proofs.Maps.{same_by_test, nothing_at, same_by_order}
-use Rattle.moka_parts.proofs.Values.{values_removed}
+use Rattle.moka_records.proofs.Maps.{same_by_test, nothing_at, same_by_order}
+use Rattle.moka_records.proofs.Values.{values_removed}
 use Rattle.moka_parts.proofs.Counting.{exact_count, exact_weight, off_by}
 use Rattle.moka_laws.proofs.RunKeepsSound.{run_kept}
 use Rattle.moka_laws.proofs.Kept.{run_cases}

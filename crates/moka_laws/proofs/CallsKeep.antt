@@ -3,15 +3,15 @@ use Rattle.std.proofs.Common.{◌≡◌, refl, ℕ, ◌+◌, ◌<◌, Bool, true
 use Rattle.std.specs.Cmp.{IsEquivalence}
 use Rattle.std.specs.FinMap.{get, insert, remove}
 use Rattle.moka_laws.proofs.Types.{Instant, Record, Operation, Upsert, Removal, Ticketed, Records, Operations, State}
-use Rattle.moka_parts.specs.Records.{counted_of, record_of_key}
+use Rattle.moka_records.specs.Records.{counted_of, record_of_key}
 use Rattle.moka_parts.specs.State.{is_disabled}
 use Rattle.moka_parts.specs.Settling.{number_of, IsWaiting, IsTracked, AreTicketed, IsWellNumbered, IsValid, IsConsistent}
 use Rattle.moka_parts.specs.Calls.{new_record, inserted, updated_record, replaced, handing_out}
-use Rattle.moka_parts.proofs.Maps.{nothing_at, found_inserted, found_removed}
+use Rattle.moka_records.proofs.Maps.{nothing_at, found_inserted, found_removed}
 use Rattle.moka_laws.proofs.Waiting.{HandsOut, hands_out, waits_at}
 use Rattle.moka_laws.proofs.Consistent.{take_kept, put_kept}
 use Rattle.moka_laws.proofs.Rising.{rising_handed, IsLatest}
-use Rattle.moka_parts.proofs.Lookup.{record_of_key_found, absent_key}
+use Rattle.moka_records.proofs.Lookup.{record_of_key_found, absent_key}
 use Rattle.std.proofs.lemmas.Bool.{false_from_ne_true}
 
 none_there : {A : Type 0} (o : Option A) → ((x : A) → o ≡ Some x → ⊥) → o ≡ None

@@ -4,20 +4,19 @@ use Rattle.std.specs.Option.{option_map_or}
 use Rattle.std.proofs.lemmas.List.Sorted.{IsPermutation-refl, IsPermutation-sym, IsPermutation-trans, IsPermutation-map, IsPermutation-append_right}
 use Rattle.std.specs.FinMap.{get, insert, remove, values}
 use Rattle.moka_laws.proofs.Types.{RemovalCause, Size, EvictionPolicy, Record, Member, Ticketed, Operation, Upsert, Removal, Records, Notice, State, Contents, Fate, Ignored, Overtaken, Counted, Admitted, TooHeavy, Preferred, Refused, Choice, Removes, MovesToBack, Drops, Freedom}
-use Rattle.moka_parts.specs.Records.{counted_of, settled_members, is_settled}
+use Rattle.moka_records.specs.Records.{counted_of, settled_members, is_settled}
 use Rattle.moka_parts.specs.State.{contents}
 use Rattle.moka_parts.specs.Candidates.{victims_for}
 use Rattle.moka_parts.specs.Writes.{with_applied, without_records, leaves_for_size, left_with, left_by_rejection, left_by_fate, left_by_write, left_by_writes, fate_of_record, after_fate, after_write, after_writes}
 use Rattle.moka_parts.specs.Maintenance.{after_choice, after_choices, left_by_choice, left_by_choices, after_queued_reads, after_queues, before_steps, at_end, left_in_run}
 use Rattle.moka_parts.specs.Laws.{values_of, TellsWhatLeaves}
-use Rattle.moka_parts.proofs.Maps.{same_or_apart, get_removed, get_past_remove}
-use Rattle.moka_parts.proofs.Values.{values_inserted, values_removed, put_over, remove_absent}
+use Rattle.moka_records.proofs.Maps.{same_or_apart, get_removed, get_past_remove}
+use Rattle.moka_records.proofs.Values.{values_inserted, values_removed, put_over, remove_absent}
 use Rattle.moka_laws.proofs.RunKeeps.{reads_keep}
 use Rattle.moka_laws.proofs.RunKeepsSound.{Known, fate_known}
 use Rattle.moka_laws.proofs.Admission.{prefix_is_front}
-use Rattle.moka_parts.proofs.AccessList.{uncounted_front, uncounted_filtered}
-use Rattle.moka_parts.proofs.Counting.{counted_front, counted_behind}
-pub use Rattle.moka_parts.proofs.AccessList.{still_within}
+use Rattle.moka_records.proofs.AccessList.{uncounted_front, uncounted_filtered, counted_front, counted_behind}
+pub use Rattle.moka_records.proofs.AccessList.{still_within}
 use Rattle.std.proofs.lemmas.List.{map-append}
 
 -- the values told in notices

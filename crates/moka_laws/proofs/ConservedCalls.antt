@@ -6,13 +6,14 @@ use Rattle.std.specs.FinMap.{insert, remove, values}
 use Rattle.moka_laws.proofs.Types.{Instant, Record, Ticket, KvEntry, OutOfMemory, InsertRefused, Call, Reply, Notice, State, Settings, Meaning, Events, Terms, Course}
 use Rattle.moka_parts.specs.declared.calls.Call.TheVariants as call
 use Rattle.moka_parts.specs.declared.calls.Reply.TheVariants as reply
-use Rattle.moka_parts.specs.Records.{when_listening, record_of_key}
+use Rattle.moka_parts.specs.Notices.{when_listening}
+use Rattle.moka_records.specs.Records.{record_of_key}
 use Rattle.moka_parts.specs.Maintenance.{MaintenanceRun, left_in_run}
 use Rattle.moka_parts.specs.Settling.{IsWellNumbered}
 use Rattle.moka_parts.specs.Calls.{no_events, Unchanged, new_record, updated_record, InsertsAt, InsertStep, RemovesAt, RemoveStep, hit_record, after_hit}
 use Rattle.moka_parts.specs.Runs.{CallStep}
 use Rattle.moka_parts.specs.Laws.{values_of, values_put, values_handed, values_told, ConservesValues, TellsEachOnce}
-use Rattle.moka_parts.proofs.Values.{values_inserted, values_replaced, values_removed}
+use Rattle.moka_records.proofs.Values.{values_inserted, values_replaced, values_removed}
 use Rattle.moka_laws.proofs.Conserved.{told, Splits, splits_itself, splits_on, splits_updated, tells_what_leaves}
 use Rattle.moka_laws.proofs.EachCall.{IsNoWrite, IsKept, each_call}
 use Rattle.moka_laws.proofs.CallsKeep.{next_number_free, record_at_its_number}

@@ -3,11 +3,11 @@ use Rattle.std.proofs.Common.{◌≡◌, refl, ℕ, ◌≤◌, ◌==◌, List, [
 use Rattle.std.specs.List.{IsDistinct}
 use Rattle.std.specs.FinMap.{get, insert, remove}
 use Rattle.moka_laws.proofs.Types.{Record, Member, Operation, Upsert, Removal, Records}
-use Rattle.moka_parts.specs.Records.{counted_of, numbers_of, without_member, without_members, to_back, all_to_back}
+use Rattle.moka_records.specs.Records.{counted_of, numbers_of, without_member, without_members, to_back, all_to_back}
 use Rattle.moka_parts.specs.Settling.{number_of, IsTracked, IsSound, IsConsistent}
 use Rattle.moka_parts.specs.Writes.{without_records}
-use Rattle.moka_parts.proofs.Maps.{AreApart, itself_tested, same_or_apart, get_inserted, get_past_insert, get_removed, get_past_remove}
-use Rattle.moka_parts.proofs.AccessList.{counted_taken_out, counted_past_taken_out, counted-to_back, counted-all_to_back, distinct_taken_out, distinct-to_back, distinct-all_to_back}
+use Rattle.moka_records.proofs.Maps.{AreApart, itself_tested, same_or_apart, get_inserted, get_past_insert, get_removed, get_past_remove}
+use Rattle.moka_records.proofs.AccessList.{counted_taken_out, counted_past_taken_out, counted-to_back, counted-all_to_back, distinct_taken_out, distinct-to_back, distinct-all_to_back}
 use Rattle.moka_laws.proofs.Waiting.{HandsOut, WaitAlike, TakesIn}
 
 -- equal numbers are not apart

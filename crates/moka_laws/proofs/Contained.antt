@@ -2,11 +2,11 @@
 use Rattle.std.proofs.Common.{◌≡◌, refl, ℕ, Bool, true, false, List, [], ◌∷◌, Option, Some, None, Result, Ok, Err, ap, sym, ◌∙◌, inl, inr, true≢false, MatchBool}
 use Rattle.moka_laws.proofs.Types.{Record, Registered, OutOfMemory, Entry, Notice, State, Events, Terms, Course}
 use Rattle.std.specs.FinMap.{empty}
-use Rattle.moka_parts.specs.Records.{record_of_key}
+use Rattle.moka_records.specs.Records.{record_of_key}
 use Rattle.moka_parts.specs.State.{is_disabled}
 use Rattle.moka_parts.specs.Visibility.{IsVisible, IsHidden, IsShown, SomeCovers, NoneCovers}
 use Rattle.moka_parts.specs.Calls.{GetsAt, Unchanged, PeeksAt, hit_record}
-use Rattle.moka_parts.proofs.Lookup.{record_of_key_empty}
+use Rattle.moka_records.proofs.Lookup.{record_of_key_empty}
 use Rattle.moka_parts.specs.Laws.{GetsWhatIsContained, is_found, is_answered, LeavesNoTrace, PeeksQuietly}
 
 not_both_cover : {K V P : Type 0} (says : P → K → V → Bool → Type 0) (ps : List (Registered P)) (r : Record K V) → SomeCovers says ps r → NoneCovers says ps r → ⊥

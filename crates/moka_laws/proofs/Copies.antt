@@ -3,7 +3,7 @@ use Rattle.std.proofs.Common.{◌≡◌, Bool, true, false, List, [], ◌∷◌,
 use Rattle.moka_laws.proofs.Types.{KvEntry, OutOfMemory, Instant, Notice, Settings}
 use Rattle.moka_parts.specs.Calls.{NotifyStep}
 use Rattle.moka_parts.specs.Copies.{ClonesAreEqual, IsCopy, IsCopiedAnswer, IsEntryCopy, IsKvEntryCopy, NotifiesOfCopy}
-use Rattle.moka_parts.specs.Records.{when_listening}
+use Rattle.moka_parts.specs.Notices.{when_listening}
 
 module _ {A : Type 0} (is_clone : A → A → Type 0) (equal : ClonesAreEqual is_clone) where
   pub copy-same : (a b : Option A) → IsCopy is_clone a b → b ≡ a

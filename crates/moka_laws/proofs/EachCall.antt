@@ -8,7 +8,7 @@ use Rattle.moka_laws.proofs.Types.{Instant, Record, Registered, ReadOperation, M
 use Rattle.moka_parts.specs.declared.calls.Call.TheVariants as call
 use Rattle.moka_parts.specs.declared.calls.Reply.TheVariants as reply
 use Rattle.moka_parts.specs.Housekeeping.{is_due, after_run_due, without_automatic}
-use Rattle.moka_parts.specs.Records.{record_of_key}
+use Rattle.moka_records.specs.Records.{record_of_key}
 use Rattle.moka_parts.specs.State.{is_disabled}
 use Rattle.moka_parts.specs.Visibility.{IsVisible}
 use Rattle.moka_parts.specs.Calls.{no_events, only_notices, only_ids, run_events, Unchanged, inserted, replaced, handing_out, queue_length, InsertsAt, InsertStep, RemovesAt, RemoveStep, queueing, keeper_terms, RunStep, KeeperRun, RunsIfDue, RecordsRead, after_hit, hit_at, hit_operation, PeeksAt, PeekStep, GetsAt, GetStep}

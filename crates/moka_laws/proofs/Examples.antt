@@ -10,7 +10,7 @@ use Rattle.moka_parts.specs.Visibility.{has_lapsed}
 use Rattle.moka_parts.specs.Expiry.{remaining, renewed, expires_updated}
 use Rattle.moka_parts.specs.Causes.{cause_of_replacement, cause_of_removal}
 use Rattle.moka_parts.specs.Candidates.{prefix, has_six_unsettled}
-use Rattle.moka_parts.specs.Records.{member}
+use Rattle.moka_records.specs.Records.{member}
 
 -- settings with these times, and without all else
 abbrev times : Option ℕ → Option ℕ → Settings ℕ ℕ

@@ -6,13 +6,13 @@ use Rattle.std.specs.Option.{option_map_or}
 use Rattle.std.specs.List.{IsDistinct, AllByRecursion}
 use Rattle.std.specs.FinMap.{get, remove}
 use Rattle.moka_laws.proofs.Types.{Record, Member, Ticketed, Operation, Upsert, Removal, Records}
-use Rattle.moka_parts.specs.Records.{member, counted_of, is_member, is_applied, without_member, without_members, to_back, all_to_back, is_listed, without_number, without_numbers, number_to_back}
+use Rattle.moka_records.specs.Records.{member, counted_of, is_member, is_applied, without_member, without_members, to_back, all_to_back, is_listed, without_number, without_numbers, number_to_back}
 use Rattle.moka_parts.specs.Order.{written_if, written_by, IsNewer}
-use Rattle.moka_parts.proofs.Maps.{AreApart, same_or_apart, itself_tested, found_removed}
-use Rattle.moka_parts.proofs.AccessList.{counted_taken_out, counted_past_taken_out, counted_pushed, counted_past_pushed, counted-to_back, counted-all_to_back}
+use Rattle.moka_records.proofs.Maps.{AreApart, same_or_apart, itself_tested, found_removed}
+use Rattle.moka_records.proofs.AccessList.{counted_taken_out, counted_past_taken_out, counted_pushed, counted_past_pushed, counted-to_back, counted-all_to_back}
 use Rattle.moka_laws.proofs.RunKeeps.{Keeps}
 use Rattle.moka_laws.proofs.Rises.{Rises, Thins, thins_filtered}
-use Rattle.moka_parts.proofs.WriteList.{listed_pushed, listed_taken_out, listed_past_taken_out, unlisted_taken_out, listed_moved}
+use Rattle.moka_records.proofs.WriteList.{listed_pushed, listed_taken_out, listed_past_taken_out, unlisted_taken_out, listed_moved}
 use Rattle.std.proofs.Math.Bool.{or-false}
 
 -- ---- the write list and the members

@@ -5,7 +5,7 @@ use Rattle.std.specs.List.{IsDistinct}
 use Rattle.std.specs.FinMap.{empty, get-empty}
 use Rattle.moka_parts.specs.State.{new_state}
 use Rattle.moka_parts.specs.Settling.{IsConsistentState, IsValid}
-use Rattle.moka_parts.proofs.Maps.{nothing_at}
+use Rattle.moka_records.proofs.Maps.{nothing_at}
 use Rattle.moka_laws.proofs.Rising.{rising_at_first}
 use Rattle.moka_laws.proofs.AtEnd.{nothing_waits}
 

@@ -6,17 +6,17 @@ use Rattle.std.proofs.lemmas.List.{map-append}
 use Rattle.std.proofs.lemmas.List.Elements.{All-from_recursion, All-contains, Contains-append_left, Contains-append_right, Contains-push}
 use Rattle.std.specs.FinMap.{get, remove}
 use Rattle.moka_laws.proofs.Types.{EvictionPolicy, Record, Member, Ticketed, Operation, Upsert, Removal, ReadOperation, Hit, Miss, Registered, Records, State, Contents, Tests, Choice, Removes, MovesToBack, Drops, Freedom, Fate, Ignored, Overtaken, Counted, Admitted, TooHeavy, Preferred, Refused}
-use Rattle.moka_parts.specs.Records.{member, counted_of, is_member, is_settled, without_member, without_members, to_back, all_to_back, is_listed, without_number, without_numbers, number_to_back}
+use Rattle.moka_records.specs.Records.{member, counted_of, is_member, is_settled, without_member, without_members, to_back, all_to_back, is_listed, without_number, without_numbers, number_to_back}
 use Rattle.moka_parts.specs.State.{contents, keeps_write_list}
 use Rattle.moka_parts.specs.Reads.{after_read, after_reads}
 use Rattle.moka_parts.specs.Maintenance.{tests_of, after_choice, after_choices, AreJustified, AreFree, after_queued_reads, before_steps, at_end}
 use Rattle.moka_parts.specs.Writes.{with_applied, without_records, fate_of_record, after_fate, after_write, after_writes}
 use Rattle.moka_parts.specs.Order.{written_if, written_by, IsNewer, written_after_fate, written_after_write, written_after_writes, written_after_choices, write_list_at_end}
-use Rattle.moka_parts.proofs.Maps.{same_or_apart, get_inserted, get_past_insert, get_removed, get_past_remove}
-use Rattle.moka_parts.proofs.AccessList.{counted_taken_out, counted-all_to_back, uncounted_without}
+use Rattle.moka_records.proofs.Maps.{same_or_apart, get_inserted, get_past_insert, get_removed, get_past_remove}
+use Rattle.moka_records.proofs.AccessList.{counted_taken_out, counted-all_to_back, uncounted_without}
 use Rattle.moka_laws.proofs.RunKeeps.{Keeps, keeps_fate, keeps_remove, keeps_itself}
 use Rattle.moka_laws.proofs.Rises.{Rises, Thins, thins_behind, thins_without_first, thins_each, thins_all}
-use Rattle.moka_parts.proofs.WriteList.{unlisted_without, once_taken_out, once_pushed, once_moved, once_without}
+use Rattle.moka_records.proofs.WriteList.{unlisted_without, once_taken_out, once_pushed, once_moved, once_without}
 use Rattle.moka_laws.proofs.InOrder.{AreMembers, members_taken_out, members_moved, members_all_moved, members_both_moved, members_pushed, members_without, settled_moment, settled_at, waiting_at, unsettled_moment, waiting_less, SameOrGone, settled_less, IsLater, IsOrdered, IsLeftOf, left_taken_out, left_unlisted, left_without, newer_left}
 use Rattle.moka_laws.proofs.RunKeepsSound.{Known, fate_known}
 

@@ -2,11 +2,11 @@
 use Rattle.std.proofs.Common.{◌≡◌, refl, ℕ, ◌+◌, ◌<◌, ◌≤◌, Bool, ◌==◌, List, map, Option, Some, None, ap, sym, ◌∙◌, subst, ◌⊎◌, inl, inr, arith, if◌then◌else◌, Contains, option_and_then}
 use Rattle.std.specs.FinMap.{get, insert, remove}
 use Rattle.moka_laws.proofs.Types.{Instant, Record, Registered, ReadOperation, Ticketed, Operation, Upsert, Removal, Housekeeping, State}
-use Rattle.moka_parts.specs.Records.{record_of_key, with_record, counted_of}
+use Rattle.moka_records.specs.Records.{record_of_key, with_record, counted_of}
 use Rattle.moka_parts.specs.Settling.{IsWaiting, IsTracked, IsValid, WaitsAt}
 use Rattle.moka_parts.specs.Order.{waiting_by_ticket, written_if, written_by, IsNewer, IsInOrder}
 use Rattle.moka_parts.specs.Calls.{handing_out, new_record, inserted, updated_record, replaced, hit_record, after_hit}
-use Rattle.moka_parts.proofs.Maps.{same_or_apart, itself_tested, get_inserted, get_past_insert, get_removed, get_past_remove, apart_below, found_inserted}
+use Rattle.moka_records.proofs.Maps.{same_or_apart, itself_tested, get_inserted, get_past_insert, get_removed, get_past_remove, apart_below, found_inserted}
 use Rattle.moka_laws.proofs.RunKeeps.{keeps_remove}
 use Rattle.moka_laws.proofs.Rises.{thins_each, thins_all}
 use Rattle.moka_laws.proofs.InOrder.{settled_moment, settled_at, waiting_at, waiting_less, IsLater, IsOrdered, newer_left}

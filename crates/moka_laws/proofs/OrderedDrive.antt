@@ -5,7 +5,7 @@ use Rattle.std.specs.List.Sorted.{IsNonDecreasing, IsStrictlyIncreasing}
 use Rattle.std.specs.FinMap.{entries}
 use Rattle.std.specs.Cmp.{IsEquivalence}
 use Rattle.moka_laws.proofs.Types.{Ticketed, Operation, Call, Reply, Notice, State, Settings, Meaning, Terms, Course, Engine, Step}
-use Rattle.moka_parts.specs.Records.{is_listed, is_member, is_settled}
+use Rattle.moka_records.specs.Records.{is_listed, is_member, is_settled}
 use Rattle.moka_parts.specs.State.{keeps_write_list}
 use Rattle.moka_parts.specs.Maintenance.{MaintenanceRun}
 use Rattle.moka_parts.specs.Settling.{IsValid}
@@ -14,7 +14,7 @@ use Rattle.moka_parts.specs.Laws.{StaysInOrder}
 use Rattle.moka_parts.specs.Runs.{CallStep, AreSteps, AreOrderly, MakesCalls, PromisedRun, OrderlyRun, IsEmpty, last_state}
 use Rattle.moka_parts.specs.Listed.{ListedRun, ListedStep, AreListedSteps}
 use Rattle.moka_parts.specs.Drives.{Drives}
-use Rattle.moka_parts.proofs.Maps.{itself_tested, entries-empty}
+use Rattle.moka_records.proofs.Maps.{itself_tested, entries-empty}
 use Rattle.moka_parts.proofs.RunsGoOn.{promised_is_run}
 use Rattle.moka_laws.proofs.StepsKeep.{hit_valid, call_keeps}
 use Rattle.moka_laws.proofs.Promises.{weaker_call, is_of_reference}

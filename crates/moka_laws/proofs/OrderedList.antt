@@ -1,10 +1,10 @@
 -- The course of the write list: after each step it has just the members' numbers, each once.
 use Rattle.std.proofs.Common.{ℕ, List}
 use Rattle.moka_laws.proofs.Types.{Member, Contents, Choice, Removes, MovesToBack, Drops}
-use Rattle.moka_parts.specs.Records.{without_member, to_back, without_number, number_to_back}
+use Rattle.moka_records.specs.Records.{without_member, to_back, without_number, number_to_back, IsListOf}
 use Rattle.moka_parts.specs.Maintenance.{after_choice}
-use Rattle.moka_parts.specs.Order.{IsListOf, written_after_choice}
-use Rattle.moka_parts.proofs.WriteList.{once_taken_out, once_moved}
+use Rattle.moka_parts.specs.Order.{written_after_choice}
+use Rattle.moka_records.proofs.WriteList.{once_taken_out, once_moved}
 use Rattle.moka_laws.proofs.InOrder.{members_taken_out, members_both_moved}
 
 module _ (access : List Member) (ns : List ℕ) (h : IsListOf access ns) where

@@ -10,7 +10,7 @@ use Rattle.moka_parts.specs.Order.{IsInOrder, ComesToRest, AgesOut, AgesOutInOrd
 use Rattle.moka_parts.specs.Visibility.{is_past_live, is_written_before}
 use Rattle.moka_parts.specs.Runs.{PromisedRun, OrderlyRun}
 use Rattle.moka_parts.specs.Listed.{LeavesList, ListedRun}
-use Rattle.moka_parts.proofs.Maps.{nothing_at}
+use Rattle.moka_records.proofs.Maps.{nothing_at}
 use Rattle.moka_laws.proofs.RunKeeps.{keeps_second}
 use Rattle.moka_laws.proofs.AgedOut.{last_after_run}
 use Rattle.moka_laws.proofs.OrderedStates.{run_in_order}

@@ -7,13 +7,13 @@ use Rattle.std.proofs.lemmas.List.{map-append}
 use Rattle.std.proofs.lemmas.List.Elements.{filter_map-append, Contains-push_cases}
 use Rattle.std.specs.FinMap.{get, insert, remove, entries, contains_key}
 use Rattle.moka_laws.proofs.Types.{Record, Ticketed, Operation, Upsert, Removal, Records, State, Freedom}
-use Rattle.moka_parts.specs.Records.{is_applied, is_settled}
+use Rattle.moka_records.specs.Records.{is_applied, is_settled}
 use Rattle.moka_parts.specs.State.{keeps_write_list}
 use Rattle.moka_parts.specs.Maintenance.{AreFree, after_run}
 use Rattle.moka_parts.specs.Calls.{handing_out}
 use Rattle.moka_parts.specs.Settling.{AreTicketed, AreRising}
 use Rattle.moka_parts.specs.Order.{waiting_by_ticket, written_at, written_by, IsNewer, IsInOrder, write_list_at_end}
-use Rattle.moka_parts.proofs.Maps.{AreApart, same_or_apart, get_past_insert, get_removed, get_past_remove}
+use Rattle.moka_records.proofs.Maps.{AreApart, same_or_apart, get_past_insert, get_removed, get_past_remove}
 use Rattle.moka_parts.proofs.Entries.{entries_pushed, entries_popped}
 use Rattle.moka_laws.proofs.Rises.{Climbs, climbs_from, non_decreasing_from, present, present_of, Rises, thins_each, thins_every, IsUpTo, rises_pushed, rises_with_none}
 use Rattle.moka_laws.proofs.InOrder.{settled_moment, settled_at, waiting_at, IsLater, AreLater, IsOrdered}

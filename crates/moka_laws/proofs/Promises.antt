@@ -2,7 +2,7 @@
 -- the reference cache.
 use Rattle.std.proofs.Common.{◌≡◌, ℕ, List, [], ◌∷◌, Some, inl, inr}
 use Rattle.moka_laws.proofs.Types.{Record, Call, Reply, Notice, State, Meaning, Events, Terms, Course, Step, Engine}
-use Rattle.moka_parts.specs.Records.{record_of_key}
+use Rattle.moka_records.specs.Records.{record_of_key}
 use Rattle.moka_parts.specs.Maintenance.{MaintenanceRun}
 use Rattle.moka_parts.specs.Calls.{after_hit}
 use Rattle.moka_parts.specs.Runs.{CallStep, AreSteps, MakesCalls, PromisedRun}

@@ -3,8 +3,9 @@ use Rattle.std.proofs.Common.{◌≡◌, refl, ap, subst, ◌∙◌, Bool, List,
 use Rattle.moka_parts.specs.declared.calls.KvEntry.{KvEntry}
 use Rattle.moka_parts.specs.declared.calls.Ticket.{Ticket}
 use Rattle.moka_parts.specs.declared.notification.RemovalCause.{RemovalCause}
-use Rattle.moka_parts.specs.declared.records.Record.{Record}
-use Rattle.moka_parts.specs.Records.{Notice, record_of_key}
+use Rattle.moka_records.specs.declared.records.Record.{Record}
+use Rattle.moka_parts.specs.Notices.{Notice}
+use Rattle.moka_records.specs.Records.{record_of_key}
 use Rattle.moka_parts.specs.State.{State, Meaning}
 use Rattle.moka_parts.specs.Maintenance.{Terms, Course}
 use Rattle.moka_parts.specs.Surroundings.{Heard}

@@ -4,7 +4,7 @@ use Rattle.std.proofs.Common.{◌≡◌, ℕ, ◌<◌, List, [], ◌∷◌, ◌+
 use Rattle.std.specs.FinMap.{get, insert, remove, empty}
 use Rattle.moka_laws.proofs.Types.{Operation, Upsert, Removal, Ticketed, Operations}
 use Rattle.moka_parts.specs.Settling.{WaitsAt, AreTicketed, AreRising}
-use Rattle.moka_parts.proofs.Maps.{nothing_at, found_inserted}
+use Rattle.moka_records.proofs.Maps.{nothing_at, found_inserted}
 use Rattle.moka_laws.proofs.Waiting.{sent_at}
 
 -- what waits does so under a ticket that was given out

@@ -7,7 +7,7 @@ use Rattle.moka_parts.specs.State.{contents}
 use Rattle.moka_parts.specs.Reads.{after_read, after_reads}
 use Rattle.moka_parts.specs.Writes.{fate, with_applied, without_records, rejected, after_fate, after_write, after_writes}
 use Rattle.moka_parts.specs.Maintenance.{after_choice, after_choices, at_end, before_steps, after_queued_reads}
-use Rattle.moka_parts.proofs.Maps.{found_inserted, found_removed}
+use Rattle.moka_records.proofs.Maps.{found_inserted, found_removed}
 
 -- each new record is an old one but for the applied generation
 abbrev pub Keeps : {K V : Type 0} → Records K V → Records K V → Type 0

@@ -3,15 +3,15 @@ use Rattle.std.proofs.Common.{◌≡◌, refl, ℕ, ◌<◌, ◌≤◌, Bool, tr
 use Rattle.std.specs.Option.{option_map_or}
 use Rattle.std.specs.FinMap.{get}
 use Rattle.moka_laws.proofs.Types.{EvictionPolicy, TinyLfu, Lru, Record, Member, Ticketed, Operation, Upsert, Removal, ReadOperation, Hit, Miss, Operations, State, Contents, Fate, Ignored, Overtaken, Counted, Admitted, TooHeavy, Preferred, Refused, Choice, Removes, MovesToBack, Drops, Freedom}
-use Rattle.moka_parts.specs.Records.{is_member, counted_of, without_members, to_back, all_to_back, total_weight, has_room, without_member}
+use Rattle.moka_records.specs.Records.{is_member, counted_of, without_members, to_back, all_to_back, total_weight, has_room, without_member}
 use Rattle.moka_parts.specs.State.{contents}
 use Rattle.moka_parts.specs.Reads.{after_read, after_reads}
 use Rattle.moka_parts.specs.Candidates.{victims_for, is_preferred}
 use Rattle.moka_parts.specs.Writes.{without_records, fate_by_frequency, fate_by_policy, fate_of_newcomer, fate_of_record, after_fate, after_write, after_writes}
 use Rattle.moka_parts.specs.Maintenance.{after_choice, after_choices, after_queued_reads, before_steps, after_run}
 use Rattle.moka_parts.specs.Settling.{IsConsistent, IsConsistentState, IsWaitingIn}
-use Rattle.moka_parts.proofs.AccessList.{counted-all_to_back, uncounted_without, counted_taken_out, counted_past_taken_out, distinct_taken_out}
-use Rattle.moka_parts.proofs.Options.{none_by_test}
+use Rattle.moka_records.proofs.AccessList.{counted-all_to_back, uncounted_without, counted_taken_out, counted_past_taken_out, distinct_taken_out}
+use Rattle.moka_records.proofs.Options.{none_by_test}
 use Rattle.moka_laws.proofs.Waiting.{TakesIn, takes_front}
 use Rattle.moka_laws.proofs.Consistent.{leave_kept, back_kept, all_back_kept, victims_kept}
 use Rattle.moka_laws.proofs.Applied.{removal_kept, late_kept, overtaken_kept, entered_kept, rejected_kept}

@@ -3,7 +3,7 @@ use Rattle.std.proofs.Common.{◌≡◌, refl, ℕ, Bool, true, false, true≢fa
 use Rattle.std.specs.List.{list_any}
 use Rattle.std.specs.FinMap.{get, len}
 use Rattle.moka_laws.proofs.Types.{RemovalCause, Instant, Record, Notice, State, Events, Terms, Course, Engine}
-use Rattle.moka_parts.specs.Records.{is_settled}
+use Rattle.moka_records.specs.Records.{is_settled}
 use Rattle.moka_parts.specs.State.{is_disabled}
 use Rattle.moka_parts.specs.Surroundings.{Leads, Heard}
 use Rattle.moka_parts.specs.Maintenance.{is_late}
@@ -13,7 +13,7 @@ use Rattle.moka_parts.specs.Calls.{run_events, RunStep}
 use Rattle.moka_parts.specs.Runs.{Befalls}
 use Rattle.moka_parts.specs.Listed.{ListedRun}
 use Rattle.moka_laws.proofs.AtEnd.{bare_is_exact}
-use Rattle.moka_parts.proofs.Maps.{nothing_at}
+use Rattle.moka_records.proofs.Maps.{nothing_at}
 use Rattle.moka_laws.proofs.Quiet.{nothing_heard}
 
 -- a run with all that is promised of it, from one write list to the other, and what listener and clock go through

@@ -7,10 +7,10 @@ use Rattle.std.proofs.lemmas.Bool.{or_cases}
 use Rattle.std.proofs.lemmas.List.Elements.{All-nil, All-cons, All-contains}
 use Rattle.std.proofs.lemmas.List.Folds.{list_any-append}
 use Rattle.moka_laws.proofs.Types.{Record, Registered, Records}
-use Rattle.moka_parts.specs.Records.{is_applied, is_listed}
+use Rattle.moka_records.specs.Records.{is_applied, is_listed}
 use Rattle.moka_parts.specs.Visibility.{Covers, NoneCovers}
 use Rattle.moka_parts.specs.Scan.{AreUncovered}
-use Rattle.moka_parts.proofs.Maps.{same_by_test}
+use Rattle.moka_records.proofs.Maps.{same_by_test}
 
 -- what stands in two lists joined stands in one of them
 pub listed_append : (n : ℕ) (xs ys : List ℕ) → is_listed n (xs ++ ys) ≡ true → (is_listed n xs ≡ true) ⊎ (is_listed n ys ≡ true)

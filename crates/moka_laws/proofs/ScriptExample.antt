@@ -8,7 +8,7 @@ use Rattle.moka_parts.specs.declared.calls.Reply.TheVariants as reply
 use Rattle.moka_parts.specs.State.{new_state}
 use Rattle.moka_parts.specs.Maintenance.{MaintenanceRun, after_run}
 use Rattle.moka_parts.specs.Calls.{no_events, run_events, are_numbers_used_up, after_hit}
-use Rattle.moka_parts.proofs.Maps.{entries-empty}
+use Rattle.moka_records.proofs.Maps.{entries-empty}
 use Rattle.moka_parts.specs.Runs.{CallStep, AreSteps}
 
 -- a meaning where nothing but keys is asked

@@ -9,15 +9,15 @@ use Rattle.moka_parts.specs.Settling.{IsWellNumbered, IsValid}
 use Rattle.moka_parts.specs.Calls.{new_record, updated_record, hit_record, ContainsStep}
 use Rattle.moka_parts.specs.Runs.{CallStep, AreSteps, last_state}
 use Rattle.moka_parts.specs.Laws.{moment_in, later_of, IsNoEarlier, is_insert_of, NeverLowers, NeverGoesBack, InsertsNever, last_moment, StaysHidden}
-use Rattle.moka_parts.proofs.Maps.{found_inserted, found_removed}
-use Rattle.moka_parts.proofs.Lookup.{record_of_key_found, absent_key, present_key}
+use Rattle.moka_records.proofs.Maps.{found_inserted, found_removed}
+use Rattle.moka_records.proofs.Lookup.{record_of_key_found, absent_key, present_key}
 use Rattle.moka_laws.proofs.Contained.{not_both}
 use Rattle.moka_laws.proofs.CallsKeep.{record_at_its_number}
 use Rattle.moka_laws.proofs.Kept.{kept_by_run}
 use Rattle.moka_laws.proofs.EachCall.{IsKept, kept_by_call}
 use Rattle.moka_laws.proofs.StepsKeep.{call_keeps}
-use Rattle.moka_parts.specs.Time.{has_passed, is_before, deadline, moment_of}
-use Rattle.moka_parts.specs.Records.{record_of_key}
+use Rattle.moka_records.specs.Time.{has_passed, is_before, deadline, moment_of}
+use Rattle.moka_records.specs.Records.{record_of_key}
 use Rattle.moka_parts.specs.Visibility.{is_expired, is_past_live, is_past_idle, has_lapsed, Covers, SomeCovers, IsVisible, IsHidden, IsShown}
 use Rattle.moka_parts.specs.Maintenance.{predicates_at_end, MaintenanceRun, AreFree, after_run, at_end}
 use Rattle.moka_laws.proofs.RunKeeps.{run_keeps}

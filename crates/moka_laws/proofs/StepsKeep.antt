@@ -5,7 +5,7 @@ use Rattle.std.specs.Cmp.{IsEquivalence}
 use Rattle.std.specs.FinMap.{get, remove}
 use Rattle.moka_laws.proofs.Types.{Instant, Record, Registered, ReadOperation, Ticketed, Operation, Call, Reply, Step, Housekeeping, Operations, Notice, State, Meaning, Events, Terms, Course, Freedom}
 use Rattle.moka_parts.specs.Runs.{CallStep, AreSteps, last_state}
-use Rattle.moka_parts.specs.Records.{record_of_key, with_record}
+use Rattle.moka_records.specs.Records.{record_of_key, with_record}
 use Rattle.moka_parts.specs.State.{is_disabled}
 use Rattle.moka_parts.specs.Maintenance.{MaintenanceRun, after_run, at_end}
 use Rattle.moka_parts.specs.Settling.{IsWaiting, IsWaitingIn, AreTicketed, IsValid, IsWellNumbered}

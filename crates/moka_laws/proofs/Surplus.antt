@@ -7,7 +7,7 @@ use Rattle.std.proofs.lemmas.Bool.{and_parts, or_from, and_left}
 use Rattle.std.proofs.lemmas.List.Sums.{sum_by-cons}
 use Rattle.std.specs.FinMap as finite
 use Rattle.moka_laws.proofs.Types.{Expired, Explicit, Replaced, Size, Record, Member, Records, State, Contents, Choice, Removes, MovesToBack, Drops, Freedom}
-use Rattle.moka_parts.specs.Records.{counted_of, is_applied, is_settled, is_member, numbers_of, total_weight, without_member}
+use Rattle.moka_records.specs.Records.{counted_of, is_applied, is_settled, is_member, numbers_of, total_weight, without_member}
 use Rattle.moka_parts.specs.Visibility.{has_lapsed, is_expired, is_past_live, is_past_idle, is_written_before, is_read_before}
 use Rattle.moka_parts.specs.Candidates.{prefix}
 use Rattle.moka_parts.specs.Exact.{IsWithin}
@@ -16,9 +16,8 @@ use Rattle.moka_parts.specs.Maintenance.{before_steps, at_end, AreFree, after_ch
 use Rattle.moka_parts.specs.Bounds.{removed_by, IsPlainSurplus}
 use Rattle.moka_parts.specs.Laws.{RemovesEnough, RemovesFirst}
 use Rattle.moka_laws.proofs.RunKeepsSound.{queues_kept}
-use Rattle.moka_parts.proofs.AccessList.{absent_taken_out}
-use Rattle.moka_parts.proofs.Counting.{front_once, rest_once}
-use Rattle.moka_parts.proofs.Maps.{same_or_apart, itself_tested, same_by_test, get_past_remove, found_removed}
+use Rattle.moka_records.proofs.AccessList.{absent_taken_out, front_once, rest_once}
+use Rattle.moka_records.proofs.Maps.{same_or_apart, itself_tested, same_by_test, get_past_remove, found_removed}
 
 -- a front that is no weight
 pub prefix_of_none : (members : List Member) (w : ℕ) → w ≡ 0 → prefix members w ≡ Some []

@@ -6,7 +6,7 @@ use Rattle.std.proofs.lemmas.List.Elements.{All-weaker, All-contains_itself, rec
 use Rattle.std.specs.FinMap.{get, entries, entries_sorted, is_sorted}
 use Rattle.moka_laws.proofs.Types.{Ticketed, Operation, Upsert, Removal, Operations}
 use Rattle.moka_parts.specs.Settling.{WaitsAt, AreRising}
-use Rattle.moka_parts.proofs.Lookup.{left_part, right_part}
+use Rattle.moka_records.proofs.Lookup.{left_part, right_part}
 use Rattle.moka_parts.proofs.Entries.{each_entry, all_above}
 use Rattle.moka_laws.proofs.InOrder.{IsLater, AreLater}
 

@@ -4,7 +4,7 @@ use Rattle.std.proofs.lemmas.List.Elements.{Contains-append_left, Contains-appen
 use Rattle.std.specs.FinMap.{get, insert, remove}
 use Rattle.moka_laws.proofs.Types.{Ticketed, Operation, Operations}
 use Rattle.moka_parts.specs.Settling.{IsWaitingIn, WaitsAt}
-use Rattle.moka_parts.proofs.Maps.{same_or_apart, get_inserted, get_past_insert, get_past_remove, found_inserted, found_removed}
+use Rattle.moka_records.proofs.Maps.{same_or_apart, get_inserted, get_past_insert, get_past_remove, found_inserted, found_removed}
 use Rattle.std.proofs.lemmas.Option.{same_Some, none-some}
 
 -- one more operation waits

@@ -2,7 +2,7 @@
 use Rattle.std.proofs.Common.{◌≡◌, refl, ℕ, List, [], ◌∷◌, Option, Some, None, nat_cmp}
 use Rattle.std.specs.FinMap.{get, remove, from_sorted, get-from_sorted}
 use Rattle.moka_laws.proofs.Types.{Size, TinyLfu, Lru, Record, Member, Upsert, Records, Contents, Overtaken, Admitted, TooHeavy, Preferred, Refused}
-use Rattle.moka_parts.specs.Records.{member}
+use Rattle.moka_records.specs.Records.{member}
 use Rattle.moka_parts.specs.Frequency.{Table, table_after}
 use Rattle.moka_parts.specs.Writes.{fate, after_write, left_by_write}
 

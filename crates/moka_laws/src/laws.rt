@@ -1,7 +1,7 @@
 //! Laws of the reference cache, which says what an engine does. None of these functions does anything: the contract of
 //! each is a law, and whoever calls it may rely on that.
 ghost use Rattle.std.specs.Prelude.{ℕ, List};
-ghost use Rattle.moka_parts.specs.declared.records.Member.{Member};
+ghost use Rattle.moka_records.specs.declared.records.Member.{Member};
 ghost use Rattle.moka_parts.specs.State.{State, Contents, meaning_of};
 ghost use Rattle.moka_parts.specs.Maintenance.{Freedom};
 ghost use Rattle.moka_parts.specs.Runs.{PromisedRun};

@@ -1,3 +1,4 @@
 pub mod Chains
+pub mod EntryMaps
 pub mod FinMaps
 pub mod Nodes

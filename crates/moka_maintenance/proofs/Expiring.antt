@@ -8,11 +8,11 @@ use Rattle.std.specs.FinMap.{FinMap, get, insert, remove, values}
 use Rattle.std.specs.Ordering.{nat_cmp}
 use Rattle.moka_parts.specs.declared.notification.RemovalCause.{RemovalCause}
 use Rattle.moka_parts.specs.declared.notification.RemovalCause.TheVariants.{Expired}
-use Rattle.moka_parts.specs.declared.records.Record.{Record}
-use Rattle.moka_parts.specs.Records.{is_applied, is_settled}
-use Rattle.moka_parts.specs.Time.{has_passed, moment_of}
+use Rattle.moka_records.specs.declared.records.Record.{Record}
+use Rattle.moka_records.specs.Records.{is_applied, is_settled}
+use Rattle.moka_records.specs.Time.{has_passed, moment_of}
 use Rattle.moka_parts.specs.Maintenance.{Choice, Removes, MovesToBack, Drops, left_by_choice}
-use Rattle.moka_parts.proofs.Values.{remove_absent, values_inserted, values_removed}
+use Rattle.moka_records.proofs.Values.{remove_absent, values_inserted, values_removed}
 use Rattle.moka_store.specs.Store.{Kept, with_timer}
 use Rattle.moka_store.proofs.Gets.{get-past_remove, get-removed}
 use Rattle.moka_maintenance.specs.declared.sweep.Tests.{Tests}

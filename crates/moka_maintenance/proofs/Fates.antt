@@ -7,16 +7,16 @@ use Rattle.moka_parts.specs.declared.notification.RemovalCause.{RemovalCause}
 use Rattle.moka_parts.specs.declared.notification.RemovalCause.TheVariants.{Size}
 use Rattle.moka_parts.specs.declared.policy.EvictionPolicy.{EvictionPolicy}
 use Rattle.moka_parts.specs.declared.policy.EvictionPolicy.TheVariants.{TinyLfu}
-use Rattle.moka_parts.specs.declared.records.Record.{Record}
-use Rattle.moka_parts.specs.declared.records.Member.{Member}
-use Rattle.moka_parts.specs.declared.records.Operation.TheVariants.{Removal, Upsert}
-use Rattle.moka_parts.specs.Records.{counted_of, entered_by, has_room, is_listed, is_member, number_to_back, to_back, total_weight, without_member, without_number, member, without_numbers}
+use Rattle.moka_records.specs.declared.records.Record.{Record}
+use Rattle.moka_records.specs.declared.records.Member.{Member}
+use Rattle.moka_records.specs.declared.records.Operation.TheVariants.{Removal, Upsert}
+use Rattle.moka_records.specs.Records.{counted_of, entered_by, has_room, is_listed, is_member, number_to_back, to_back, total_weight, without_member, without_number, member, without_numbers, IsListOf}
 use Rattle.moka_parts.specs.State.{Contents}
 use Rattle.moka_parts.specs.Candidates.{are_unsettled, is_preferred, victims_for}
 use Rattle.moka_parts.specs.Writes.{AreMoves, Fate, Ignored, Overtaken, Counted, Admitted, TooHeavy, Preferred, Refused, is_compared, fate, fate_of_record, fate_of_newcomer, fate_by_policy, fate_by_frequency, after_fate, left_by_fate, left_by_rejection, entered, rejected, with_applied, left_with, with_moved, without_victims}
 use Rattle.moka_parts.specs.Maintenance.{Removes, after_choice}
-use Rattle.moka_parts.specs.Order.{IsListOf, written_after_fate}
-use Rattle.moka_parts.proofs.AccessList.{absent_taken_out, counted-all_to_back}
+use Rattle.moka_parts.specs.Order.{written_after_fate}
+use Rattle.moka_records.proofs.AccessList.{absent_taken_out, counted-all_to_back}
 use Rattle.moka_parts.specs.Frequency.{Table}
 use Rattle.moka_store.specs.Store.{Kept}
 use Rattle.moka_store.proofs.Gets.{none_by_test, some_is}

@@ -4,8 +4,8 @@ use Rattle.std.proofs.lemmas.Bool.{cond-true}
 use Rattle.std.specs.Ordering.{nat_cmp, eq_by_cmp}
 use Rattle.std.specs.FinMap.{FinMap, entries, find, get, remove, len, get-entries, len-entries}
 use Rattle.moka_store.proofs.Gets.{after_remove, get-past_remove}
-use Rattle.moka_parts.proofs.Maps.{itself_ordered}
-use Rattle.moka_parts.proofs.Values.{len_removed}
+use Rattle.moka_records.proofs.Maps.{itself_ordered}
+use Rattle.moka_records.proofs.Values.{len_removed}
 
 -- each key of the second is one of the first
 pub record AreKeysOf {X : Type 0} (old new : FinMap nat_cmp X) : Type 0 where

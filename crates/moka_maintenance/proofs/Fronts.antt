@@ -3,13 +3,12 @@ use Rattle.std.proofs.Common.{◌≡◌, refl, ℕ, ◌+◌, Bool, true, false, 
 use Rattle.std.proofs.lemmas.Bool.{cond-true, cond-false}
 use Rattle.std.proofs.lemmas.List.Elements.{filter-append}
 use Rattle.std.specs.List.{IsDistinct}
-use Rattle.moka_parts.specs.declared.records.Member.{Member}
-use Rattle.moka_parts.specs.Records.{Records, counted_of, is_member, is_settled, member, numbers_of, settled_members, to_back, without_member}
+use Rattle.moka_records.specs.declared.records.Member.{Member}
+use Rattle.moka_records.specs.Records.{Records, counted_of, is_member, is_settled, member, numbers_of, settled_members, to_back, without_member}
 use Rattle.moka_parts.specs.Maintenance.{is_front, is_over}
 use Rattle.moka_parts.specs.Exact.{IsWithin}
-use Rattle.moka_parts.proofs.AccessList.{absent_taken_out, counted-to_back}
-use Rattle.moka_parts.proofs.Counting.{front_once}
-use Rattle.moka_parts.proofs.Maps.{itself_tested, same_by_test}
+use Rattle.moka_records.proofs.AccessList.{absent_taken_out, counted-to_back, front_once}
+use Rattle.moka_records.proofs.Maps.{itself_tested, same_by_test}
 
 -- where the capacity is not exceeded, the list is within it
 pub within-not_over : (capacity : Option ℕ) (xs : List Member) → is_over capacity xs ≡ false → IsWithin capacity xs

@@ -4,11 +4,11 @@ use Rattle.std.proofs.Common.{◌≡◌, refl, ℕ, zero, suc, ◌+◌, ◌≤�
 use Rattle.moka_parts.specs.Frequency.{Table}
 use Rattle.moka_parts.specs.declared.notification.RemovalCause.{RemovalCause}
 use Rattle.moka_parts.specs.declared.notification.RemovalCause.TheVariants.{Expired, Explicit}
-use Rattle.moka_parts.specs.declared.records.Record.{Record}
+use Rattle.moka_records.specs.declared.records.Record.{Record}
 use Rattle.moka_parts.specs.declared.records.Registered.{Registered}
 use Rattle.moka_parts.specs.State.{Contents}
 use Rattle.moka_parts.specs.Order.{IsAtRestByWrite, written_after_choice, written_after_choices}
-use Rattle.moka_parts.specs.Records.{settled_members}
+use Rattle.moka_records.specs.Records.{settled_members}
 use Rattle.moka_parts.specs.Visibility.{SomeCovers, is_expired, is_written_before, is_read_before}
 use Rattle.moka_parts.specs.Maintenance as parts
 use Rattle.moka_parts.specs.Maintenance.{Choice, Removes, MovesToBack, Drops, HasCause, after_choice, after_choices, is_past_read, is_past_write}

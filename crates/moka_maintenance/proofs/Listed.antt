@@ -5,11 +5,10 @@ use Rattle.std.proofs.lemmas.List.{length-map}
 use Rattle.std.proofs.lemmas.List.Folds.{list_any-append}
 use Rattle.std.proofs.lemmas.List.Sums.{count_by-le-length, length-filter}
 use Rattle.std.specs.List.{AllByRecursion, IsDistinct, filter, list_any}
-use Rattle.moka_parts.specs.declared.records.Member.{Member}
-use Rattle.moka_parts.specs.Records.{counted_of, is_listed, is_member, numbers_of, without_number, without_member}
-use Rattle.moka_parts.specs.Order.{IsListOf}
-use Rattle.moka_parts.proofs.Maps.{itself_tested, same_or_apart}
-use Rattle.moka_parts.proofs.WriteList.{listed_past_taken_out, unlisted_taken_out, unlisted_all}
+use Rattle.moka_records.specs.declared.records.Member.{Member}
+use Rattle.moka_records.specs.Records.{counted_of, is_listed, is_member, numbers_of, without_number, without_member, IsListOf}
+use Rattle.moka_records.proofs.Maps.{itself_tested, same_or_apart}
+use Rattle.moka_records.proofs.WriteList.{listed_past_taken_out, unlisted_taken_out, unlisted_all}
 use Rattle.moka_store.specs.Store.{number_after}
 
 -- ---- how many are left

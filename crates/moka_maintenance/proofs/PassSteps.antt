@@ -7,10 +7,10 @@ use Rattle.std.specs.List.{list_all}
 use Rattle.std.specs.Duration.{as_nanos}
 use Rattle.std.specs.Option.{option_map}
 use Rattle.moka_parts.specs.declared.notification.RemovalCause.{RemovalCause}
-use Rattle.moka_parts.specs.Time.{deadline, has_passed, is_before, moment_of}
-use Rattle.moka_parts.specs.declared.policy.Instant.{Instant}
-use Rattle.moka_parts.specs.declared.records.Record.{Record}
-use Rattle.moka_parts.specs.Records.{is_applied, is_member}
+use Rattle.moka_records.specs.Time.{deadline, has_passed, is_before, moment_of}
+use Rattle.moka_records.specs.declared.instant.Instant.{Instant}
+use Rattle.moka_records.specs.declared.records.Record.{Record}
+use Rattle.moka_records.specs.Records.{is_applied, is_member}
 use Rattle.moka_parts.specs.State.{Contents}
 use Rattle.moka_parts.specs.Order.{written_after_choices}
 use Rattle.moka_parts.specs.Visibility.{SomeCovers, NoneCovers, is_expired, is_read_before, is_written_before}

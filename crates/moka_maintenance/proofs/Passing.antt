@@ -9,9 +9,9 @@ use Rattle.std.specs.FinMap.{get}
 use Rattle.std.specs.List.{list_all, list_any}
 use Rattle.moka_parts.specs.declared.records.Registered.{Registered}
 use Rattle.moka_parts.specs.declared.notification.RemovalCause.{RemovalCause}
-use Rattle.moka_parts.specs.declared.policy.Instant.{Instant}
+use Rattle.moka_records.specs.declared.instant.Instant.{Instant}
 use Rattle.moka_parts.specs.Maintenance.{is_late}
-use Rattle.moka_parts.specs.declared.records.Record.{Record}
+use Rattle.moka_records.specs.declared.records.Record.{Record}
 use Rattle.moka_parts.specs.Visibility.{SomeCovers, NoneCovers}
 use Rattle.moka_parts.specs.Bounds.{removed_by}
 use Rattle.moka_parts.specs.Grounds.{FollowsGrounds, grounds_of, grounds_of_pass}

@@ -3,7 +3,7 @@ use Rattle.std.proofs.Common.{◌≡◌, ◌≢◌, ℕ, Option, Some, None, inl
 use Rattle.std.proofs.lemmas.Bool.{cases_eq}
 use Rattle.std.specs.FinMap.{FinMap, get, insert, remove}
 use Rattle.std.specs.Ordering.{nat_cmp}
-use Rattle.moka_parts.specs.declared.records.Operation.TheVariants.{Removal}
+use Rattle.moka_records.specs.declared.records.Operation.TheVariants.{Removal}
 use Rattle.moka_parts.specs.Settling.{number_of}
 use Rattle.moka_store.specs.Store.{Kept}
 use Rattle.moka_store.proofs.Gets.{get-inserted, get-past_insert, get-past_remove, after_remove}

@@ -7,14 +7,15 @@ use Rattle.std.specs.List.{list_any}
 use Rattle.std.specs.Duration.{as_nanos}
 use Rattle.std.specs.FinMap.{get, len}
 use Rattle.moka_parts.specs.declared.notification.RemovalCause.{RemovalCause}
-use Rattle.moka_parts.specs.declared.policy.Instant.{Instant}
-use Rattle.moka_parts.specs.declared.records.Record.{Record}
-use Rattle.moka_parts.specs.declared.records.Member.{Member}
+use Rattle.moka_records.specs.declared.instant.Instant.{Instant}
+use Rattle.moka_records.specs.declared.records.Record.{Record}
+use Rattle.moka_records.specs.declared.records.Member.{Member}
 use Rattle.moka_parts.specs.declared.records.Registered.{Registered}
-use Rattle.moka_parts.specs.declared.records.Operation.{Operation}
-use Rattle.moka_parts.specs.declared.records.Operation.TheVariants.{Upsert}
+use Rattle.moka_records.specs.declared.records.Operation.{Operation}
+use Rattle.moka_records.specs.declared.records.Operation.TheVariants.{Upsert}
 use Rattle.moka_parts.specs.Visibility.{NoneCovers, SomeCovers, is_expired}
-use Rattle.moka_parts.specs.Records.{Records, when_listening, is_applied, is_settled, is_member, counted_of, numbers_of, settled_members, total_weight}
+use Rattle.moka_records.specs.Records.{Records, is_applied, is_settled, is_member, counted_of, numbers_of, settled_members, total_weight}
+use Rattle.moka_parts.specs.Notices.{when_listening}
 use Rattle.moka_parts.specs.State.{State, Contents, with_contents, is_disabled, keeps_write_list}
 use Rattle.moka_parts.specs.Surroundings.{Heard}
 use Rattle.moka_parts.specs.Writes.{left_by_writes}
@@ -27,8 +28,8 @@ use Rattle.moka_parts.specs.Settling.{IsAllSent, IsWaitingIn, IsWhole, IsConsist
 use Rattle.moka_parts.specs.Listed.{LeavesList, ListedRun}
 use Rattle.moka_parts.specs.Order.{IsAtRestByWrite, write_list_at_end, write_list_before_steps, written_after_choices, written_after_writes}
 use Rattle.moka_parts.specs.Grounds.{AreDrops, FollowsGrounds, IsAtRestByRead, grounds_of}
-use Rattle.moka_parts.proofs.Maps.{same_by_order}
-use Rattle.moka_parts.proofs.Options.{mapped_is_some}
+use Rattle.moka_records.proofs.Maps.{same_by_order}
+use Rattle.moka_records.proofs.Options.{mapped_is_some}
 use Rattle.moka_laws.proofs.RunKeeps.{run_keeps}
 use Rattle.moka_laws.proofs.RunKeepsSound.{run_kept}
 use Rattle.moka_laws.proofs.StepsKeep.{run_valid}

@@ -8,10 +8,9 @@ use Rattle.std.specs.FinMap.{get}
 use Rattle.std.specs.List.{AllByRecursion, IsDistinct}
 use Rattle.moka_parts.specs.declared.notification.RemovalCause.{RemovalCause}
 use Rattle.moka_parts.specs.declared.records.Registered.{Registered}
-use Rattle.moka_parts.specs.Records.{is_listed, is_settled, numbers_of}
-use Rattle.moka_parts.specs.Order.{IsListOf}
+use Rattle.moka_records.specs.Records.{is_listed, is_settled, numbers_of, IsListOf}
 use Rattle.moka_parts.specs.Scan.{AreUncovered}
-use Rattle.moka_parts.proofs.Maps.{itself_tested, same_by_test, same_or_apart}
+use Rattle.moka_records.proofs.Maps.{itself_tested, same_by_test, same_or_apart}
 use Rattle.moka_laws.proofs.Scanned.{uncovered-append, uncovered-kept, listed_append}
 use Rattle.moka_store.specs.Store.{Kept}
 use Rattle.moka_maintenance.specs.Upkeep.{SetsNoTimer}

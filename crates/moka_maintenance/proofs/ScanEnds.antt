@@ -6,16 +6,15 @@ use Rattle.std.specs.FinMap.{remove}
 use Rattle.std.specs.List.{IsDistinct}
 use Rattle.std.specs.Option.{option_map_or}
 use Rattle.moka_parts.specs.declared.notification.RemovalCause.{RemovalCause}
-use Rattle.moka_parts.specs.declared.records.Member.{Member}
-use Rattle.moka_parts.specs.declared.records.Record.{Record}
+use Rattle.moka_records.specs.declared.records.Member.{Member}
+use Rattle.moka_records.specs.declared.records.Record.{Record}
 use Rattle.moka_parts.specs.declared.records.Registered.{Registered}
 use Rattle.moka_parts.specs.Grounds.{EndsScan}
 use Rattle.moka_parts.specs.Maintenance.{Choice, Removes, MovesToBack, Drops}
-use Rattle.moka_parts.specs.Order.{IsListOf}
-use Rattle.moka_parts.specs.Records.{Records, counted_of, is_applied, is_listed, is_member, is_settled, settled_numbers, without_member}
+use Rattle.moka_records.specs.Records.{IsListOf, Records, counted_of, is_applied, is_listed, is_member, is_settled, settled_numbers, without_member}
 use Rattle.moka_parts.specs.Visibility.{NoneCovers}
 use Rattle.moka_laws.proofs.Scanned.{listed_append}
-use Rattle.moka_parts.proofs.WriteList.{unlisted_all}
+use Rattle.moka_records.proofs.WriteList.{unlisted_all}
 use Rattle.moka_store.specs.Store.{Kept}
 use Rattle.moka_store.proofs.Gets.{get-past_remove}
 use Rattle.moka_store.proofs.Members.{counted-without}

@@ -4,14 +4,14 @@ use Rattle.std.proofs.lemmas.List.Elements.{Contains-append_right}
 use Rattle.std.specs.FinMap.{get}
 use Rattle.std.specs.List.{IsDistinct}
 use Rattle.moka_parts.specs.declared.notification.RemovalCause.{RemovalCause}
-use Rattle.moka_parts.specs.declared.records.Record.{Record}
+use Rattle.moka_records.specs.declared.records.Record.{Record}
 use Rattle.moka_parts.specs.declared.records.Registered.{Registered}
 use Rattle.moka_parts.specs.Maintenance.{Choice, Removes, MovesToBack, Drops, Tests, after_choice, after_choices, kept_by_choice, kept_by_choices, AreJustified}
 use Rattle.moka_parts.specs.Visibility.{Covers, NoneCovers, SomeCovers}
-use Rattle.moka_parts.specs.Order.{IsListOf}
+use Rattle.moka_records.specs.Records.{IsListOf}
 use Rattle.moka_parts.specs.State.{Contents}
 use Rattle.moka_parts.specs.Grounds.{AreDrops}
-use Rattle.moka_parts.proofs.Maps.{itself_tested, same_by_test}
+use Rattle.moka_records.proofs.Maps.{itself_tested, same_by_test}
 use Rattle.moka_laws.proofs.Scanned.{not_one_covers, uncovered-none}
 use Rattle.moka_store.specs.Store.{Kept}
 use Rattle.moka_maintenance.proofs.Upkeep.{untimed-none}

@@ -5,16 +5,16 @@ use Rattle.std.specs.Option.{option_map, option_map_or}
 use Rattle.std.specs.Prelude.{option_to_list}
 use Rattle.moka_parts.specs.declared.notification.RemovalCause.{RemovalCause}
 use Rattle.moka_parts.specs.declared.notification.RemovalCause.TheVariants.{Expired, Explicit, Replaced, Size}
-use Rattle.moka_parts.specs.declared.records.Member.{Member}
-use Rattle.moka_parts.specs.declared.records.Record.{Record}
+use Rattle.moka_records.specs.declared.records.Member.{Member}
+use Rattle.moka_records.specs.declared.records.Record.{Record}
 use Rattle.moka_parts.specs.declared.records.Registered.{Registered}
 use Rattle.moka_parts.specs.Visibility.{SomeCovers}
-use Rattle.moka_parts.specs.Records.{counted_of, is_applied, is_member, is_settled, member, without_member, to_back}
+use Rattle.moka_records.specs.Records.{counted_of, is_applied, is_member, is_settled, member, without_member, to_back}
 use Rattle.moka_parts.specs.Maintenance.{Choice, Removes, MovesToBack, Drops, Tests, left_by_choice, left_by_choices}
 use Rattle.moka_parts.specs.Bounds.{removed_by}
 use Rattle.moka_laws.proofs.OneMore.{removed_by_append}
 use Rattle.moka_store.proofs.Gets.{after_remove, get-past_remove}
-use Rattle.moka_parts.proofs.AccessList.{counted-to_back}
+use Rattle.moka_records.proofs.AccessList.{counted-to_back}
 use Rattle.moka_store.proofs.Members.{counted-without}
 use Rattle.moka_maintenance.specs.Steps.{Stock, after_step, after_steps, MayLeave, MayRun, MayAll, AreAllMembers, HasUnsettled, Told, IsStepped, HasNoSettled}
 use Rattle.moka_maintenance.proofs.Dropping.{gone-append}

@@ -6,13 +6,12 @@ use Rattle.std.proofs.lemmas.List.{length-map, nil_from_length, map-append}
 use Rattle.std.proofs.lemmas.List.Folds.{list_all-append}
 use Rattle.std.specs.List.{IsDistinct, list_all}
 use Rattle.moka_parts.specs.declared.notification.RemovalCause.{RemovalCause}
-use Rattle.moka_parts.specs.declared.records.Member.{Member}
-use Rattle.moka_parts.specs.Records.{is_member, is_settled, numbers_of, Records, is_listed, number_to_back, settled_members, to_back, without_number}
+use Rattle.moka_records.specs.declared.records.Member.{Member}
+use Rattle.moka_records.specs.Records.{is_member, is_settled, numbers_of, Records, is_listed, number_to_back, settled_members, to_back, without_number, IsListOf}
 use Rattle.moka_parts.specs.Maintenance.{Removes, MovesToBack, Choice, Drops, is_front, is_over}
 use Rattle.moka_parts.specs.Bounds.{removed_by}
-use Rattle.moka_parts.specs.Order.{IsListOf}
-use Rattle.moka_parts.proofs.AccessList.{distinct_taken_out, distinct-to_back}
-use Rattle.moka_parts.proofs.Maps.{same_by_test, itself_tested}
+use Rattle.moka_records.proofs.AccessList.{distinct_taken_out, distinct-to_back}
+use Rattle.moka_records.proofs.Maps.{same_by_test, itself_tested}
 use Rattle.moka_laws.proofs.OrderedList.{choice_listed}
 use Rattle.moka_maintenance.specs.declared.sweep.Tests.{Tests}
 use Rattle.moka_maintenance.specs.declared.sweep.Sweep.{Sweep}

@@ -4,14 +4,14 @@ use Rattle.std.proofs.lemmas.Bool.{cases_eq}
 use Rattle.std.proofs.lemmas.Option.{same_Some}
 use Rattle.std.specs.FinMap.{FinMap, get}
 use Rattle.std.specs.Ordering.{nat_cmp}
-use Rattle.moka_parts.specs.declared.records.Record.{Record}
-use Rattle.moka_parts.specs.declared.records.Member.{Member}
-use Rattle.moka_parts.specs.Records.{counted_of, is_applied, is_member, without_member}
-use Rattle.moka_parts.specs.Time.{has_passed, moment_of}
+use Rattle.moka_records.specs.declared.records.Record.{Record}
+use Rattle.moka_records.specs.declared.records.Member.{Member}
+use Rattle.moka_records.specs.Records.{counted_of, is_applied, is_member, without_member}
+use Rattle.moka_records.specs.Time.{has_passed, moment_of}
 use Rattle.moka_parts.specs.Visibility.{is_expired}
-use Rattle.moka_parts.proofs.AccessList.{uncounted_taken_out}
+use Rattle.moka_records.proofs.AccessList.{uncounted_taken_out}
 use Rattle.moka_store.specs.Store.{Kept, with_timer}
-use Rattle.moka_store.proofs.TableMaps.{get-altered, get-past_altered}
+use Rattle.moka_table.proofs.TableMaps.{get-altered, get-past_altered}
 use Rattle.moka_maintenance.specs.Timers.{AreOnTime, AreTimed, HasNoneDue, KeepsTimers, SetsTimers, StandsAtExpiry}
 
 -- who is a member once one was taken out was one before

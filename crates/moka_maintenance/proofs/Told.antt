@@ -1,7 +1,7 @@
 -- Notices, one list after the other.
 use Rattle.std.proofs.Common.{◌≡◌, refl, Bool, true, false, List, [], ◌++◌, Option, Some, None, is_some, sym, subst}
 use Rattle.moka_parts.specs.declared.notification.RemovalCause.{RemovalCause}
-use Rattle.moka_parts.specs.Records.{Notice, when_listening}
+use Rattle.moka_parts.specs.Notices.{Notice, when_listening}
 use Rattle.moka_parts.specs.Surroundings.{Heard}
 use Rattle.moka_parts.proofs.RunsGoOn.{Heard-append}
 use Rattle.moka_maintenance.specs.Steps.{Told}

@@ -4,11 +4,11 @@ use Rattle.std.proofs.lemmas.Option.{same_Some}
 use Rattle.std.proofs.lemmas.Bool.{cond-false, ne_eqb}
 use Rattle.std.specs.FinMap.{FinMap, get, insert, remove}
 use Rattle.std.specs.Ordering.{nat_cmp}
-use Rattle.moka_parts.specs.declared.records.Member.{Member}
-use Rattle.moka_parts.specs.declared.records.Record.{Record}
-use Rattle.moka_parts.specs.Records.{Records, counted_of, is_member, without_member, without_number}
-use Rattle.moka_parts.specs.Time.{moment_of}
-use Rattle.moka_parts.proofs.AccessList.{counted_taken_out}
+use Rattle.moka_records.specs.declared.records.Member.{Member}
+use Rattle.moka_records.specs.declared.records.Record.{Record}
+use Rattle.moka_records.specs.Records.{Records, counted_of, is_member, without_member, without_number}
+use Rattle.moka_records.specs.Time.{moment_of}
+use Rattle.moka_records.proofs.AccessList.{counted_taken_out}
 use Rattle.moka_store.specs.Store.{Kept, cursor_past, with_timer}
 use Rattle.moka_store.proofs.Gets.{after_remove, get-past_insert, get-past_remove, get-inserted}
 use Rattle.moka_maintenance.specs.Expelled.{without_record}

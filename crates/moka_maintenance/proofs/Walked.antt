@@ -8,14 +8,14 @@ use Rattle.std.specs.List.{IsDistinct}
 use Rattle.std.specs.Option.{option_map_or}
 use Rattle.moka_parts.specs.declared.notification.RemovalCause.{RemovalCause}
 use Rattle.moka_parts.specs.declared.notification.RemovalCause.TheVariants.{Explicit}
-use Rattle.moka_parts.specs.declared.records.Record.{Record}
+use Rattle.moka_records.specs.declared.records.Record.{Record}
 use Rattle.moka_parts.specs.declared.records.Registered.{Registered}
-use Rattle.moka_parts.specs.Records.{Records, is_applied, is_listed, is_settled, without_number, counted_of}
+use Rattle.moka_records.specs.Records.{Records, is_applied, is_listed, is_settled, without_number, counted_of}
 use Rattle.moka_parts.specs.Visibility.{NoneCovers}
 use Rattle.moka_parts.specs.Maintenance.{Choice, Removes, MovesToBack, Drops}
-use Rattle.moka_parts.proofs.Maps.{itself_tested, same_by_test, same_or_apart}
+use Rattle.moka_records.proofs.Maps.{itself_tested, same_by_test, same_or_apart}
 use Rattle.moka_laws.proofs.Scanned.{uncovered-none, uncovered-push, uncovered-kept}
-use Rattle.moka_parts.proofs.WriteList.{listed_taken_out, listed_past_taken_out, once_taken_out}
+use Rattle.moka_records.proofs.WriteList.{listed_taken_out, listed_past_taken_out, once_taken_out}
 use Rattle.moka_store.specs.Store.{Kept, number_after, IsPlaced, IsOrdered}
 use Rattle.moka_store.specs.declared.store.Handle.{Handle}
 use Rattle.moka_store.proofs.Gets.{after_remove, get-past_remove}

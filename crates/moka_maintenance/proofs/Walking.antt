@@ -9,14 +9,13 @@ use Rattle.std.specs.Option.{option_map_or}
 use Rattle.std.proofs.lemmas.List.Elements.{filter-append}
 use Rattle.std.proofs.lemmas.List.Folds.{list_all-append}
 use Rattle.std.proofs.lemmas.List.Sums.{sum_by-append, sum_by_push}
-use Rattle.moka_parts.specs.declared.records.Member.{Member}
-use Rattle.moka_parts.specs.Records.{Records, counted_of, is_member, is_settled, member, numbers_of, settled_members, to_back, without_member, all_to_back, total_weight}
+use Rattle.moka_records.specs.declared.records.Member.{Member}
+use Rattle.moka_records.specs.Records.{Records, counted_of, is_member, is_settled, member, numbers_of, settled_members, to_back, without_member, all_to_back, total_weight}
 use Rattle.moka_parts.specs.Candidates.{prefix, has_six_unsettled, before_last_of, are_unsettled, hash_of, frequency_of_all, victims_for, is_preferred}
 use Rattle.moka_parts.specs.State.{Contents}
 use Rattle.moka_parts.specs.Writes.{Preferred, Refused, fate_by_frequency}
-use Rattle.moka_parts.proofs.AccessList.{absent_taken_out, distinct-all_to_back}
-use Rattle.moka_parts.proofs.Counting.{front_once, rest_once, counted_front}
-use Rattle.moka_parts.proofs.Maps.{itself_tested, same_by_test}
+use Rattle.moka_records.proofs.AccessList.{absent_taken_out, distinct-all_to_back, front_once, rest_once, counted_front}
+use Rattle.moka_records.proofs.Maps.{itself_tested, same_by_test}
 use Rattle.moka_laws.proofs.Surplus.{prefix_of_none}
 use Rattle.moka_laws.proofs.Conserved.{still_within}
 use Rattle.moka_store.specs.Store.{member_after}

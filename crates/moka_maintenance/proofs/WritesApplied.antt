@@ -4,9 +4,9 @@ use Rattle.std.proofs.lemmas.List.{map-append}
 use Rattle.std.proofs.lemmas.List.Elements.{Contains-append_cases}
 use Rattle.moka_parts.specs.declared.notification.RemovalCause.{RemovalCause}
 use Rattle.moka_parts.specs.declared.policy.EvictionPolicy.{EvictionPolicy}
-use Rattle.moka_parts.specs.declared.records.Operation.{Operation}
-use Rattle.moka_parts.specs.declared.records.Operation.TheVariants.{Removal}
-use Rattle.moka_parts.specs.declared.records.Ticketed.{Ticketed}
+use Rattle.moka_records.specs.declared.records.Operation.{Operation}
+use Rattle.moka_records.specs.declared.records.Operation.TheVariants.{Removal}
+use Rattle.moka_records.specs.declared.records.Ticketed.{Ticketed}
 use Rattle.moka_parts.specs.Order.{written_after_write, written_after_writes}
 use Rattle.moka_parts.specs.State.{Contents}
 use Rattle.moka_parts.specs.Writes.{after_write, after_writes, left_by_write, left_by_writes, AreAllMoves}

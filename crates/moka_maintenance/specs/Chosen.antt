@@ -1,8 +1,8 @@
 -- What the choice between a candidate and its victims makes of the access list.
 use Rattle.std.specs.Prelude.{◌≡◌, ℕ, Bool, true, List, take, if◌then◌else◌}
 use Rattle.std.specs.List.{list_all}
-use Rattle.moka_parts.specs.declared.records.Member.{Member}
-use Rattle.moka_parts.specs.Records.{all_to_back, is_settled}
+use Rattle.moka_records.specs.declared.records.Member.{Member}
+use Rattle.moka_records.specs.Records.{all_to_back, is_settled}
 use Rattle.moka_parts.specs.State.{Contents}
 use Rattle.moka_parts.specs.Candidates.{are_unsettled, victims_for}
 use Rattle.moka_parts.specs.Writes.{Preferred, Refused, fate_by_frequency}

@@ -1,7 +1,7 @@
 -- A store that a record has left.
 use Rattle.std.specs.Prelude.{◌≡◌, ℕ, Option}
 use Rattle.std.specs.FinMap as finite
-use Rattle.moka_parts.specs.Records.{without_member, without_number}
+use Rattle.moka_records.specs.Records.{without_member, without_number}
 use Rattle.moka_parts.specs.declared.notification.RemovalCause.{RemovalCause}
 use Rattle.moka_parts.specs.Maintenance.{Removes, left_by_choice}
 use Rattle.moka_store.specs.Store.{Kept, cursor_past}

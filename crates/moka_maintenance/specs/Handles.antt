@@ -1,6 +1,6 @@
 -- What handles lead to.
 use Rattle.std.specs.Prelude.{◌≡◌, None, IsSome}
-use Rattle.moka_parts.specs.Records.{counted_of}
+use Rattle.moka_records.specs.Records.{counted_of}
 use Rattle.moka_store.specs.declared.store.Handle.{Handle}
 use Rattle.moka_store.specs.Store.{Kept, IsPlaced, IsHandle}
 

@@ -2,7 +2,7 @@
 use Rattle.std.specs.Prelude.{◌≡◌, ℕ, ◌+◌, ◌-◌, ◌*◌, ◌/◌, ◌<◌, nat_le, Bool, true, false, ◌||◌, ◌≤◌, ◌⊎◌, List, [], ◌++◌, length, take, Option, Some, None, is_some, if◌then◌else◌}
 use Rattle.std.specs.List.{list_all}
 use Rattle.moka_parts.specs.declared.notification.RemovalCause.{RemovalCause}
-use Rattle.moka_parts.specs.declared.policy.Instant.{Instant}
+use Rattle.moka_records.specs.declared.instant.Instant.{Instant}
 use Rattle.moka_parts.specs.declared.records.Registered.{Registered}
 use Rattle.moka_parts.specs.Surroundings.{Leads}
 use Rattle.moka_parts.specs.Exact.{IsWithin}

@@ -3,10 +3,10 @@ use Rattle.std.specs.Prelude.{◌≡◌, ◌≢◌, ℕ, Bool, true, List, Optio
 use Rattle.std.specs.FinMap.{get}
 use Rattle.moka_parts.specs.declared.notification.RemovalCause.{RemovalCause}
 use Rattle.moka_parts.specs.declared.policy.EvictionPolicy.{EvictionPolicy}
-use Rattle.moka_parts.specs.declared.records.Record.{Record}
-use Rattle.moka_parts.specs.declared.records.Operation.{Operation}
-use Rattle.moka_parts.specs.declared.records.Operation.TheVariants.{Upsert, Removal}
-use Rattle.moka_parts.specs.declared.records.Ticketed.{Ticketed}
+use Rattle.moka_records.specs.declared.records.Record.{Record}
+use Rattle.moka_records.specs.declared.records.Operation.{Operation}
+use Rattle.moka_records.specs.declared.records.Operation.TheVariants.{Upsert, Removal}
+use Rattle.moka_records.specs.declared.records.Ticketed.{Ticketed}
 use Rattle.moka_parts.specs.State.{Contents}
 use Rattle.moka_parts.specs.Candidates.{are_unsettled, victims_for}
 use Rattle.moka_parts.specs.Writes.{after_fate, left_by_fate, fate_by_frequency, after_write, after_writes, left_by_write, left_by_writes, AreMoves, AreAllMoves}

@@ -5,10 +5,10 @@ use Rattle.std.specs.FinMap.{get}
 use Rattle.std.specs.List.{IsDistinct}
 use Rattle.moka_parts.specs.declared.notification.RemovalCause.{RemovalCause}
 use Rattle.moka_parts.specs.declared.notification.RemovalCause.TheVariants.{Explicit}
-use Rattle.moka_parts.specs.declared.records.Record.{Record}
+use Rattle.moka_records.specs.declared.records.Record.{Record}
 use Rattle.moka_parts.specs.declared.records.Registered.{Registered}
-use Rattle.moka_parts.specs.Records.{is_member, is_settled}
-pub use Rattle.moka_parts.specs.Records.{settled_numbers}
+use Rattle.moka_records.specs.Records.{is_member, is_settled}
+pub use Rattle.moka_records.specs.Records.{settled_numbers}
 use Rattle.moka_parts.specs.State.{Contents}
 use Rattle.moka_parts.specs.Visibility.{Covers, SomeCovers, NoneCovers}
 use Rattle.moka_parts.specs.Maintenance.{Choice, Removes, MovesToBack, Drops, Tests, kept_by_choices, AreJustified}

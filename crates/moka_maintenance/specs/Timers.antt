@@ -1,9 +1,9 @@
 -- What maintenance makes of the timers of a store.
 use Rattle.std.specs.Prelude.{◌≡◌, ℕ, true, ◌<◌, ◌⊎◌, Some, None}
 use Rattle.std.specs.FinMap.{get}
-use Rattle.moka_parts.specs.declared.records.Record.{Record}
-use Rattle.moka_parts.specs.Time.{moment_of}
-use Rattle.moka_parts.specs.Records.{is_applied, is_member}
+use Rattle.moka_records.specs.declared.records.Record.{Record}
+use Rattle.moka_records.specs.Time.{moment_of}
+use Rattle.moka_records.specs.Records.{is_applied, is_member}
 use Rattle.moka_store.specs.Store.{Kept}
 
 module _ {K V : Type 0} where

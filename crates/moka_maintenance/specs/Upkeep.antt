@@ -1,9 +1,9 @@
 -- What every step of maintenance keeps of a store.
 use Rattle.std.specs.Prelude.{◌≡◌, ℕ, true, ◌<◌, ◌≤◌, ◌⊎◌, Some}
 use Rattle.std.specs.FinMap.{get, insert}
-use Rattle.moka_parts.specs.declared.records.Record.{Record}
-use Rattle.moka_parts.specs.Time.{moment_of}
-use Rattle.moka_parts.specs.Records.{is_applied}
+use Rattle.moka_records.specs.declared.records.Record.{Record}
+use Rattle.moka_records.specs.Time.{moment_of}
+use Rattle.moka_records.specs.Records.{is_applied}
 use Rattle.moka_store.specs.Store.{Kept}
 use Rattle.moka_maintenance.specs.Steps.{AddsNoPlace, LeavesNoRow}
 use Rattle.moka_maintenance.specs.Timers.{HasNoneDue, KeepsTimers}

@@ -4,9 +4,9 @@
 ghost use Rattle.std.specs.Prelude.{◌≡◌, ◌<◌, ℕ, true, [], Some, Contains};
 ghost use Rattle.std.specs.FinMap as finite;
 ghost use Rattle.circular_buffer.specs.Buffer.{buffer};
-ghost use Rattle.moka_parts.specs.declared.records.Operation.TheVariants.{Removal};
-ghost use Rattle.moka_parts.specs.declared.records.Record.{Record};
-ghost use Rattle.moka_parts.specs.Records.{entered_by, to_back, without_member, number_to_back, without_number};
+ghost use Rattle.moka_records.specs.declared.records.Operation.TheVariants.{Removal};
+ghost use Rattle.moka_records.specs.declared.records.Record.{Record};
+ghost use Rattle.moka_records.specs.Records.{entered_by, to_back, without_member, number_to_back, without_number};
 ghost use Rattle.moka_parts.specs.Reads.{after_read, after_reads};
 ghost use Rattle.moka_parts.specs.Settling.{number_of};
 ghost use Rattle.moka_parts.specs.Writes.{entered, rejected, left_by_rejection};

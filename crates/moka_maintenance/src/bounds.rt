@@ -1,6 +1,6 @@
 //! What bounds a cache.
 ghost use Rattle.std.specs.Prelude.{◌≡◌};
-ghost use Rattle.moka_parts.specs.Records.{has_room};
+ghost use Rattle.moka_records.specs.Records.{has_room};
 
 use moka_parts::policy::EvictionPolicy;
 

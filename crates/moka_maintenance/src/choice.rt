@@ -5,7 +5,7 @@ ghost use Rattle.std.specs.Prelude.{◌≡◌, ◌+◌, ◌<◌, ◌^◌, ℕ, t
 ghost use Rattle.std.specs.FinMap as finite;
 ghost use Rattle.moka_parts.specs.Frequency.{frequency};
 ghost use Rattle.moka_parts.specs.Candidates.{hash_of};
-ghost use Rattle.moka_parts.specs.Records.{counted_of, is_settled, member, without_numbers};
+ghost use Rattle.moka_records.specs.Records.{counted_of, is_settled, member, without_numbers};
 ghost use Rattle.moka_parts.specs.Writes.{left_with, without_victims};
 ghost use Rattle.moka_store.specs.Store.{IsPlaced};
 ghost use Rattle.moka_maintenance.specs.Chosen.{AreSettled, Chooses};

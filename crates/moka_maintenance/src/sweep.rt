@@ -5,10 +5,10 @@
 ghost use Rattle.std.specs.Prelude.{◌≡◌, ℕ, true, false, if◌then◌else◌, [], None, Some, IfNone, MatchOption, List};
 ghost use Rattle.std.specs.FinMap as finite;
 ghost use Rattle.moka_parts.specs.declared.notification.RemovalCause.TheVariants.{Expired, Explicit};
-ghost use Rattle.moka_parts.specs.declared.records.Member.{Member};
+ghost use Rattle.moka_records.specs.declared.records.Member.{Member};
 ghost use Rattle.moka_parts.specs.Maintenance.{is_front, is_over};
-ghost use Rattle.moka_parts.specs.Records.{total_weight};
-ghost use Rattle.moka_parts.specs.Time.{is_before, moment_of};
+ghost use Rattle.moka_records.specs.Records.{total_weight};
+ghost use Rattle.moka_records.specs.Time.{is_before, moment_of};
 ghost use Rattle.moka_maintenance.specs.Handles.{IsMemberAt};
 ghost use Rattle.moka_maintenance.specs.Steps.{Stock, stock_in};
 ghost use Rattle.moka_maintenance.specs.Sweeps.{LeavesIn, IsNext, IsAtRest, TakesTurn, IsSwept};

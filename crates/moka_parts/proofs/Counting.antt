@@ -1,18 +1,17 @@
 -- A list of members and a map that have the same numbers have as many, and the same weight if each weighs the same in
 -- both.
-use Rattle.std.proofs.Common.{◌≡◌, refl, ℕ, ◌+◌, true, cond, ◌==◌, List, [], ◌∷◌, length, Option, Some, None, option_map, is_some, ap, sym, ◌∙◌, inl, inr, arith, nat_cmp, ◌≤◌, ◌<◌, false, map, T, subst, ◌⊎◌, Contains, length-append, ◌++◌}
+use Rattle.std.proofs.Common.{◌≡◌, refl, ℕ, ◌+◌, true, ◌==◌, List, [], ◌∷◌, length, Option, Some, None, option_map, is_some, ap, sym, ◌∙◌, inl, inr, arith, nat_cmp, ◌≤◌, ◌<◌, false, map, T, subst, ◌⊎◌, Contains, length-append, ◌++◌}
 use Rattle.std.specs.List.{IsDistinct, sum_by, AllByRecursion, list_any}
 use Rattle.std.proofs.lemmas.List.Sums.{sum_by-cons}
 use Rattle.std.proofs.lemmas.List.Sorted.{sum_by-IsPermutation}
 use Rattle.std.specs.FinMap.{get, remove, values, len, keys, entries, entries_sorted, len-entries, contains_key-keys, is_sorted}
 use Rattle.moka_parts.proofs.Types.{Record, Member, Records}
-use Rattle.moka_parts.specs.Records.{counted_of, is_member, numbers_of, total_weight, is_listed}
+use Rattle.moka_records.specs.Records.{counted_of, is_member, numbers_of, total_weight, is_listed}
 use Rattle.moka_parts.specs.Exact.{AreExactMembers, weight_of_records}
-use Rattle.moka_parts.proofs.Maps.{AreApart, same_or_apart, itself_tested, get_removed, get_past_remove, apart_below, numbers_alike}
-use Rattle.moka_parts.proofs.Options.{none_by_test}
-use Rattle.moka_parts.proofs.Values.{values_removed, empty_map, values-empty}
-use Rattle.moka_parts.proofs.AccessList.{listed_counted}
-use Rattle.moka_parts.proofs.WriteList.{unlisted_all, turned}
+use Rattle.moka_records.proofs.Maps.{same_or_apart, get_removed, get_past_remove, apart_below, numbers_alike}
+use Rattle.moka_records.proofs.Values.{values_removed, empty_map, values-empty}
+use Rattle.moka_records.proofs.AccessList.{listed_counted, front_once, rest_once, counted_front, counted_behind}
+use Rattle.moka_records.proofs.WriteList.{turned}
 use Rattle.std.proofs.lemmas.Map.Made.{length-le_from_is_member}
 use Rattle.std.proofs.lemmas.Map.Views.{list_any-from_Contains}
 use Rattle.std.proofs.lemmas.List.Folds.{list_any-append}
@@ -20,23 +19,7 @@ use Rattle.std.proofs.lemmas.List.{length-map}
 use Rattle.std.proofs.lemmas.Bool.{or_left, or_right}
 use Rattle.std.specs.Cmp.{unsigned_tied}
 use Rattle.moka_parts.proofs.Entries.{all_above}
-use Rattle.moka_parts.proofs.Lookup.{left_part, right_part}
-use Rattle.std.proofs.lemmas.Map.Keys.{IsDistinct-head, IsDistinct-tail}
-
--- the first number does not stand again
-pub front_once : (a : Member) (xs : List Member) → IsDistinct (◌==◌) (numbers_of (a ∷ xs)) → counted_of a.number xs ≡ None
-front_once a xs h = none_by_test (counted_of a.number xs) (sym (listed_counted a.number xs) ∙ unlisted_all a.number (numbers_of xs) (IsDistinct-head (◌==◌) a.number (numbers_of xs) h))
-
--- the others stand once
-pub rest_once : (a : Member) (xs : List Member) → IsDistinct (◌==◌) (numbers_of (a ∷ xs)) → IsDistinct (◌==◌) (numbers_of xs)
-rest_once a xs h = IsDistinct-tail (◌==◌) a.number (numbers_of xs) h
-
--- the first is counted with its own weight
-pub counted_front : (a : Member) (xs : List Member) → counted_of a.number (a ∷ xs) ≡ Some a.counted
-counted_front a xs = ap (λ b. cond b (Some a.counted) (counted_of a.number xs)) (itself_tested a.number)
-
-pub counted_behind : (a : Member) (xs : List Member) (k : ℕ) → AreApart k a.number → counted_of k (a ∷ xs) ≡ counted_of k xs
-counted_behind a xs k apart = ap (λ b. cond b (Some a.counted) (counted_of k xs)) apart.back
+use Rattle.moka_records.proofs.Lookup.{left_part, right_part}
 
 -- ---- as many
 

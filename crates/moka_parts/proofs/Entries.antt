@@ -6,9 +6,9 @@ use Rattle.std.specs.Cmp.{nat_cmp_total, nat_cmp_is, ranked}
 use Rattle.std.specs.FinMap.{FinMap, get, insert, remove, entries, entries_sorted, entries-insert, get-entries, put, is_sorted}
 use Rattle.std.specs.FinMap.Entries.{by_order, below_all}
 use Rattle.std.specs.FinMap as finite
-use Rattle.moka_parts.proofs.Maps.{itself_ordered, found_removed}
-use Rattle.moka_parts.proofs.Values.{put_again}
-use Rattle.moka_parts.proofs.Lookup.{left_part, right_part, found_behind}
+use Rattle.moka_records.proofs.Maps.{itself_ordered, found_removed}
+use Rattle.moka_records.proofs.Values.{put_again}
+use Rattle.moka_records.proofs.Lookup.{left_part, right_part, found_behind}
 
 module _ {X : Type 0} where
   each_in : (P : ℕ × X → Type 0) (es : List (ℕ × X)) → T (is_sorted nat_cmp es) → ((k : ℕ) (x : X) → finite.find nat_cmp k es ≡ Some x → P (k, x)) → AllByRecursion P es

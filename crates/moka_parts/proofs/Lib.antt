@@ -1,12 +1,6 @@
 pub mod Types
-pub mod Maps
-pub mod Options
-pub mod Values
-pub mod AccessList
+pub mod Removals
 pub mod Counting
-pub mod WriteList
 pub mod Entries
-pub mod Lookup
 pub mod RunsGoOn
 pub mod Registry
-pub mod Tested

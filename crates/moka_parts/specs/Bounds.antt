@@ -2,9 +2,9 @@
 use Rattle.std.specs.Prelude.{◌≡◌, ℕ, Bool, true, false, not, ◌+◌, ◌-◌, ◌*◌, ◌/◌, ◌≤◌, ◌⊎◌, List, [], ◌∷◌, ◌++◌, length, take, Option, Some, if◌then◌else◌}
 use Rattle.std.specs.List.{list_all, list_any}
 use Rattle.std.specs.FinMap.{get}
-use Rattle.moka_parts.specs.declared.records.Record.{Record}
-use Rattle.moka_parts.specs.declared.records.Member.{Member}
-use Rattle.moka_parts.specs.Records.{is_settled, numbers_of, settled_members, total_weight}
+use Rattle.moka_records.specs.declared.records.Record.{Record}
+use Rattle.moka_records.specs.declared.records.Member.{Member}
+use Rattle.moka_records.specs.Records.{is_settled, numbers_of, settled_members, total_weight}
 use Rattle.moka_parts.specs.State.{State, Contents, keeps_write_list}
 use Rattle.moka_parts.specs.Visibility.{SomeCovers, NoneCovers, has_lapsed}
 use Rattle.moka_parts.specs.Candidates.{prefix}

@@ -2,12 +2,12 @@
 use Rattle.std.specs.Prelude.{◌≡◌, ℕ, Bool, true, false, ◌==◌, ◌||◌, ◌+◌, ◌<◌, ◌≤◌, ◌^◌, nat_lt, nat_le, List, [], ◌∷◌, ◌++◌, length, map, Option, Some, None, Result, Ok, Err, ◌⊎◌, MatchBool, IsPermutation, slice_get, if◌then◌else◌}
 use Rattle.std.specs.FinMap as finite
 use Rattle.uuid.specs.declared.Uuid.{Uuid}
-use Rattle.moka_parts.specs.declared.policy.Instant.{Instant}
-use Rattle.moka_parts.specs.declared.records.Record.{Record}
-use Rattle.moka_parts.specs.declared.records.Operation.{Operation}
-use Rattle.moka_parts.specs.declared.records.Operation.TheVariants.{Upsert, Removal}
-use Rattle.moka_parts.specs.declared.records.ReadOperation.{ReadOperation}
-use Rattle.moka_parts.specs.declared.records.ReadOperation.TheVariants.{Hit, Miss}
+use Rattle.moka_records.specs.declared.instant.Instant.{Instant}
+use Rattle.moka_records.specs.declared.records.Record.{Record}
+use Rattle.moka_records.specs.declared.records.Operation.{Operation}
+use Rattle.moka_records.specs.declared.records.Operation.TheVariants.{Upsert, Removal}
+use Rattle.moka_records.specs.declared.records.ReadOperation.{ReadOperation}
+use Rattle.moka_records.specs.declared.records.ReadOperation.TheVariants.{Hit, Miss}
 use Rattle.moka_parts.specs.declared.calls.Ticket.{Ticket}
 use Rattle.moka_parts.specs.declared.error.OutOfMemory.{OutOfMemory}
 use Rattle.moka_parts.specs.declared.calls.Entry.{Entry}
@@ -21,7 +21,8 @@ use Rattle.moka_parts.specs.declared.error.PredicateError.{PredicateError}
 use Rattle.moka_parts.specs.declared.error.PredicateError.TheVariants as predicate_error
 use Rattle.moka_parts.specs.declared.error.PredicateRefused.{PredicateRefused}
 use Rattle.moka_parts.specs.declared.error.CapacityError.{CapacityError}
-use Rattle.moka_parts.specs.Records.{Notice, when_listening, record_of_key, with_record}
+use Rattle.moka_parts.specs.Notices.{Notice, when_listening}
+use Rattle.moka_records.specs.Records.{record_of_key, with_record}
 use Rattle.moka_parts.specs.State.{State, Settings, Events, is_disabled}
 use Rattle.moka_parts.specs.Housekeeping.{is_due, after_run_due, limit_of_run}
 use Rattle.moka_parts.specs.Visibility.{IsVisible, IsHidden, IsShown}

@@ -3,8 +3,8 @@ use Rattle.std.specs.Prelude.{ℕ, Bool, false, ◌==◌, not, ◌&&◌, ◌||�
 use Rattle.std.specs.List.{before_first, last_or, list_all}
 use Rattle.std.specs.Option.{option_map_or}
 use Rattle.std.specs.FinMap.{get}
-use Rattle.moka_parts.specs.declared.records.Member.{Member}
-use Rattle.moka_parts.specs.Records.{Records, is_settled, settled_members}
+use Rattle.moka_records.specs.declared.records.Member.{Member}
+use Rattle.moka_records.specs.Records.{Records, is_settled, settled_members}
 use Rattle.moka_parts.specs.State.{Contents}
 use Rattle.moka_parts.specs.Frequency.{frequency}
 

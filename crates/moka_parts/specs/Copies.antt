@@ -4,9 +4,9 @@ use Rattle.std.specs.Prelude.{◌≡◌, ◌⊎◌, List, [], Option, Some, None
 use Rattle.moka_parts.specs.declared.calls.Entry.{Entry}
 use Rattle.moka_parts.specs.declared.calls.KvEntry.{KvEntry}
 use Rattle.moka_parts.specs.declared.error.OutOfMemory.{OutOfMemory}
-use Rattle.moka_parts.specs.declared.policy.Instant.{Instant}
+use Rattle.moka_records.specs.declared.instant.Instant.{Instant}
 use Rattle.moka_parts.specs.Calls.{NotifyStep}
-use Rattle.moka_parts.specs.Records.{Notice}
+use Rattle.moka_parts.specs.Notices.{Notice}
 use Rattle.moka_parts.specs.State.{Settings}
 
 module _ {A : Type 0} (is_clone : A → A → Type 0) where

@@ -2,10 +2,10 @@
 use Rattle.std.specs.Prelude.{◌≡◌, ℕ, ◌==◌, ◌≤◌, min, List, sum_by, Option, Some, None, option_map, ⊤}
 use Rattle.std.specs.List.{IsDistinct}
 use Rattle.std.specs.FinMap.{get, len, values}
-use Rattle.moka_parts.specs.declared.records.Member.{Member}
-use Rattle.moka_parts.specs.Records.{Records, counted_of, numbers_of, total_weight}
+use Rattle.moka_records.specs.declared.records.Member.{Member}
+use Rattle.moka_records.specs.Records.{Records, counted_of, numbers_of, total_weight}
 use Rattle.moka_parts.specs.State.{State}
-use Rattle.moka_parts.specs.Time.{greatest}
+use Rattle.moka_records.specs.Time.{greatest}
 
 -- the sum of the records' weights
 abbrev pub weight_of_records : {K V : Type 0} → Records K V → ℕ

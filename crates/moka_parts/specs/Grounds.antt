@@ -4,9 +4,9 @@ use Rattle.std.specs.FinMap.{get}
 use Rattle.std.specs.List.{IsDistinct}
 use Rattle.moka_parts.specs.declared.notification.RemovalCause.{RemovalCause}
 use Rattle.moka_parts.specs.declared.notification.RemovalCause.TheVariants.{Expired, Explicit, Size}
-use Rattle.moka_parts.specs.declared.records.Record.{Record}
+use Rattle.moka_records.specs.declared.records.Record.{Record}
 use Rattle.moka_parts.specs.Order.{IsAtRestByWrite, written_after_choice, written_after_choices}
-use Rattle.moka_parts.specs.Records.{is_applied, is_listed, is_member, is_settled, settled_members, settled_numbers}
+use Rattle.moka_records.specs.Records.{is_applied, is_listed, is_member, is_settled, settled_members, settled_numbers}
 use Rattle.moka_parts.specs.State.{Contents}
 use Rattle.moka_parts.specs.Visibility.{is_expired, is_written_before, is_read_before}
 use Rattle.moka_parts.specs.Exact.{IsWithin}

@@ -2,7 +2,7 @@
 use Rattle.std.specs.Prelude.{◌≡◌, ℕ, Bool, List, Option}
 use Rattle.std.specs.Duration.{as_nanos}
 use Rattle.moka_parts.specs.declared.housekeeper.HousekeeperConfig.{HousekeeperConfig}
-use Rattle.moka_parts.specs.declared.policy.Instant.{Instant}
+use Rattle.moka_records.specs.declared.instant.Instant.{Instant}
 use Rattle.moka_parts.specs.Housekeeping.{Housekeeping, new_housekeeping, after_run_due, limit_of_run}
 use Rattle.moka_parts.specs.Surroundings.{Leads}
 

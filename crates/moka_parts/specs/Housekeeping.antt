@@ -1,7 +1,7 @@
 -- When the housekeeper starts a run.
 use Rattle.std.specs.Prelude.{ℕ, Bool, true, false, ◌&&◌, ◌||◌, nat_le, Option, Some, None, if◌then◌else◌}
-use Rattle.moka_parts.specs.declared.policy.Instant.{Instant}
-use Rattle.moka_parts.specs.Time.{plus}
+use Rattle.moka_records.specs.declared.instant.Instant.{Instant}
+use Rattle.moka_records.specs.Time.{plus}
 
 -- what the housekeeper remembers
 pub record Housekeeping : Type 0 where

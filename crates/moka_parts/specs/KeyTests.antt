@@ -1,20 +1,15 @@
 -- Look-ups by a test of the key in place of a key.
-use Rattle.std.specs.Prelude.{◌≡◌, ℕ, Bool, false, List, find, Option, None, Result, Ok, MatchBool}
-use Rattle.std.specs.FinMap.{values}
+pub use Rattle.moka_records.specs.KeyTests.{record_by}
+use Rattle.std.specs.Prelude.{◌≡◌, ℕ, Bool, false, List, Option, None, Result, Ok, MatchBool}
 use Rattle.moka_parts.specs.declared.calls.Entry.{Entry}
 use Rattle.moka_parts.specs.declared.calls.KvEntry.{KvEntry}
 use Rattle.moka_parts.specs.declared.calls.Ticket.{Ticket}
 use Rattle.moka_parts.specs.declared.error.OutOfMemory.{OutOfMemory}
-use Rattle.moka_parts.specs.declared.records.Record.{Record}
 use Rattle.moka_parts.specs.Calls.{GetsAt, RemovesAt, Unchanged}
 use Rattle.moka_parts.specs.Maintenance.{Terms, Course}
-use Rattle.moka_parts.specs.Records.{Notice, Records}
+use Rattle.moka_parts.specs.Notices.{Notice}
 use Rattle.moka_parts.specs.State.{State, Events, is_disabled}
 use Rattle.moka_parts.specs.Visibility.{IsShown}
-
--- the record whose key passes
-abbrev pub record_by : {K V : Type 0} → (K → Bool) → Records K V → Option (Record K V)
-record_by passes records = find (λ r. passes r.key) (values records)
 
 module _ {K V X P W : Type 0} (says : P → K → V → Bool → Type 0) (passes : K → Bool) (s : State K V X P W) where
   -- a get that records

@@ -1,9 +1,9 @@
 -- Laws that users rely on, as facts of the reference cache.
 use Rattle.std.specs.Prelude.{◌≡◌, ℕ, Bool, true, false, ◌+◌, ◌-◌, ◌<◌, ◌≤◌, List, [], ◌∷◌, ◌++◌, length, take, map, Option, Some, None, option_map, Result, Ok, Err, ◌⊎◌, slice_get, IsPermutation, Contains, is_some, ⊤}
 use Rattle.std.specs.FinMap.{get, values, len, contains_key}
-use Rattle.moka_parts.specs.declared.policy.Instant.{Instant}
-use Rattle.moka_parts.specs.declared.records.Record.{Record}
-use Rattle.moka_parts.specs.declared.records.Member.{Member}
+use Rattle.moka_records.specs.declared.instant.Instant.{Instant}
+use Rattle.moka_records.specs.declared.records.Record.{Record}
+use Rattle.moka_records.specs.declared.records.Member.{Member}
 use Rattle.moka_parts.specs.declared.records.Registered.{Registered}
 use Rattle.moka_parts.specs.declared.calls.Call.{Call}
 use Rattle.moka_parts.specs.declared.calls.Call.TheVariants as call
@@ -15,8 +15,9 @@ use Rattle.moka_parts.specs.declared.calls.Entry.{Entry}
 use Rattle.moka_parts.specs.declared.calls.KvEntry.{KvEntry}
 use Rattle.moka_parts.specs.declared.calls.Ticket.{Ticket}
 use Rattle.moka_parts.specs.Settling.{IsConsistentState, IsWellNumbered, IsValid, IsAllSent}
-use Rattle.moka_parts.specs.Time.{moment_of, is_before}
-use Rattle.moka_parts.specs.Records.{Records, Notice, record_of_key, with_record, numbers_of, total_weight}
+use Rattle.moka_records.specs.Time.{moment_of, is_before}
+use Rattle.moka_records.specs.Records.{Records, record_of_key, with_record, numbers_of, total_weight}
+use Rattle.moka_parts.specs.Notices.{Notice}
 use Rattle.moka_parts.specs.State.{State, Settings, Contents, Meaning, Events, is_disabled, new_state, keeps_write_list}
 use Rattle.moka_parts.specs.Frequency.{frequency}
 use Rattle.moka_parts.specs.Candidates.{prefix, frequency_of_all}

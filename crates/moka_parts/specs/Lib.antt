@@ -1,7 +1,6 @@
-pub mod Time
 pub mod Policy
+pub mod Notices
 pub mod Records
-pub mod Hashing
 pub mod Surroundings
 pub mod Notification
 pub mod Frequency
@@ -23,6 +22,7 @@ pub mod Settling
 pub mod Registry
 pub mod Calls
 pub mod Copies
+pub mod Restores
 pub mod Order
 pub mod Bounds
 pub mod Runs
@@ -32,4 +32,6 @@ pub mod Drives
 pub mod Texts
 pub mod KeyTests
 pub mod Counters
-pub mod RecordParts
+pub use Rattle.moka_records.specs.Time
+pub use Rattle.moka_records.specs.Hashing
+pub use Rattle.moka_records.specs.RecordParts

@@ -1,6 +1,6 @@
 -- Runs of maintenance and calls, with the write list before and after them.
 use Rattle.std.specs.Prelude.{◌≡◌, ℕ, Bool, true, List, [], ◌∷◌, ◌++◌, length, Option, None}
-use Rattle.moka_parts.specs.Records.{Notice}
+use Rattle.moka_parts.specs.Notices.{Notice}
 use Rattle.moka_parts.specs.State.{State, Meaning, is_disabled, keeps_write_list}
 use Rattle.moka_parts.specs.Maintenance.{Choice, Freedom, Terms, Course, RunsWith, after_choices, before_steps, tests_of}
 use Rattle.moka_parts.specs.Bounds.{IsBounded, EndsSweep}

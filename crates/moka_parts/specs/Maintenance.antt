@@ -5,13 +5,14 @@ use Rattle.std.specs.FinMap as finite
 use Rattle.moka_parts.specs.declared.notification.RemovalCause.{RemovalCause}
 use Rattle.moka_parts.specs.declared.notification.RemovalCause.TheVariants.{Expired, Explicit, Replaced, Size}
 use Rattle.moka_parts.specs.declared.policy.EvictionPolicy.{EvictionPolicy}
-use Rattle.moka_parts.specs.declared.policy.Instant.{Instant}
-use Rattle.moka_parts.specs.declared.records.Record.{Record}
+use Rattle.moka_records.specs.declared.instant.Instant.{Instant}
+use Rattle.moka_records.specs.declared.records.Record.{Record}
 use Rattle.moka_parts.specs.declared.records.Registered.{Registered}
-use Rattle.moka_parts.specs.declared.records.Member.{Member}
-use Rattle.moka_parts.specs.Records.{Notice, when_listening, is_member, without_member, to_back, total_weight, has_room, is_settled}
+use Rattle.moka_records.specs.declared.records.Member.{Member}
+use Rattle.moka_parts.specs.Notices.{Notice, when_listening}
+use Rattle.moka_records.specs.Records.{is_member, without_member, to_back, total_weight, has_room, is_settled}
 use Rattle.moka_parts.specs.State.{State, Settings, Contents, contents, with_contents, is_disabled}
-use Rattle.moka_parts.specs.Time.{has_passed, deadline}
+use Rattle.moka_records.specs.Time.{has_passed, deadline}
 use Rattle.moka_parts.specs.Visibility.{is_expired, is_written_before, is_read_before, Covers, SomeCovers}
 use Rattle.moka_parts.specs.Frequency.{Table, no_counts, size_asked, table_length_for}
 use Rattle.moka_parts.specs.Reads.{after_reads}

@@ -2,7 +2,7 @@
 use Rattle.std.specs.Prelude.{Bool, true, false, [], ◌∷◌, Option, is_some}
 use Rattle.moka_parts.specs.declared.notification.RemovalCause.{RemovalCause}
 use Rattle.moka_parts.specs.declared.notification.RemovalCause.TheVariants.{Expired, Explicit, Replaced, Size}
-use Rattle.moka_parts.specs.Records.{when_listening}
+use Rattle.moka_parts.specs.Notices.{when_listening}
 use Rattle.moka_parts.specs.Surroundings.{Heard}
 
 -- the value was not taken out by a caller

@@ -1,17 +1,16 @@
 -- States in which operations wait in the order of their writing, and what that gives.
 use Rattle.std.specs.Prelude.{◌≡◌, ℕ, Bool, true, false, ◌==◌, ◌<◌, ◌≤◌, List, [], ◌∷◌, ◌++◌, length, map, filter, filter_map, Option, Some, None, option_map, option_and_then, Contains, slice_get, if◌then◌else◌, ⊤}
-use Rattle.std.specs.List.{IsDistinct}
 use Rattle.std.specs.List.Sorted.{IsNonDecreasing, IsStrictlyIncreasing}
 use Rattle.std.specs.FinMap.{get, entries, contains_key}
 use Rattle.moka_parts.specs.declared.policy.EvictionPolicy.{EvictionPolicy}
-use Rattle.moka_parts.specs.declared.records.Record.{Record}
-use Rattle.moka_parts.specs.declared.records.Member.{Member}
-use Rattle.moka_parts.specs.declared.records.Ticketed.{Ticketed}
-use Rattle.moka_parts.specs.declared.records.Operation.{Operation}
-use Rattle.moka_parts.specs.declared.records.Operation.TheVariants.{Upsert, Removal}
+use Rattle.moka_records.specs.declared.records.Record.{Record}
+use Rattle.moka_records.specs.declared.records.Ticketed.{Ticketed}
+use Rattle.moka_records.specs.declared.records.Operation.{Operation}
+use Rattle.moka_records.specs.declared.records.Operation.TheVariants.{Upsert, Removal}
 use Rattle.moka_parts.specs.declared.calls.Call.{Call}
 use Rattle.moka_parts.specs.declared.calls.Call.TheVariants as call
-use Rattle.moka_parts.specs.Records.{Records, is_member, is_settled, is_listed, without_number, number_to_back, without_numbers, entered_by}
+pub use Rattle.moka_records.specs.Records.{IsListOf}
+use Rattle.moka_records.specs.Records.{Records, is_settled, without_number, number_to_back, without_numbers, entered_by}
 use Rattle.moka_parts.specs.State.{State, Contents, keeps_write_list}
 use Rattle.moka_parts.specs.Visibility.{is_past_live, is_written_before}
 use Rattle.moka_parts.specs.Writes.{Fate, Ignored, Overtaken, Counted, Admitted, TooHeavy, Preferred, Refused, fate, after_write}
@@ -44,11 +43,7 @@ module _ {K V : Type 0} (records : Records K V) where
   IsNewer (Upsert number generation weight hash) = (r : Record K V) → get records number ≡ Some r
       → r.applied < generation
 
--- the list has just the members' numbers, each once
-abbrev pub IsListOf : List Member → List ℕ → Type 0
-IsListOf access ns = IsDistinct (◌==◌) ns × ((n : ℕ) → is_listed n ns ≡ is_member n access)
-
--- the same of a state
+-- the list has just the numbers of the state's members, each once
 abbrev pub IsWriteList : {K V X P W : Type 0} → State K V X P W → List ℕ → Type 0
 IsWriteList s write_list = IsListOf s.access write_list
 

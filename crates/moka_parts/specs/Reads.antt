@@ -1,9 +1,9 @@
 -- Queued reads applied.
 use Rattle.std.specs.Prelude.{List, [], ◌∷◌, is_some, if◌then◌else◌}
 use Rattle.std.specs.FinMap.{get}
-use Rattle.moka_parts.specs.declared.records.ReadOperation.{ReadOperation}
-use Rattle.moka_parts.specs.declared.records.ReadOperation.TheVariants.{Hit, Miss}
-use Rattle.moka_parts.specs.Records.{to_back}
+use Rattle.moka_records.specs.declared.records.ReadOperation.{ReadOperation}
+use Rattle.moka_records.specs.declared.records.ReadOperation.TheVariants.{Hit, Miss}
+use Rattle.moka_records.specs.Records.{to_back}
 use Rattle.moka_parts.specs.State.{Contents}
 use Rattle.moka_parts.specs.Frequency.{counted_once}
 

@@ -1,9 +1,9 @@
 -- What a scan of the predicates has found.
 use Rattle.std.specs.Prelude.{◌≡◌, ℕ, Bool, true, List, Some}
 use Rattle.std.specs.FinMap.{get}
-use Rattle.moka_parts.specs.declared.records.Record.{Record}
+use Rattle.moka_records.specs.declared.records.Record.{Record}
 use Rattle.moka_parts.specs.declared.records.Registered.{Registered}
-use Rattle.moka_parts.specs.Records.{Records, is_applied, is_listed}
+use Rattle.moka_records.specs.Records.{Records, is_applied, is_listed}
 use Rattle.moka_parts.specs.Visibility.{NoneCovers}
 
 -- no settled record of these numbers is covered by one of the predicates

@@ -4,14 +4,15 @@ use Rattle.std.specs.FinMap.{empty}
 use Rattle.uuid.specs.declared.Uuid.{Uuid}
 use Rattle.moka_parts.specs.declared.notification.RemovalCause.{RemovalCause}
 use Rattle.moka_parts.specs.declared.policy.EvictionPolicy.{EvictionPolicy}
-use Rattle.moka_parts.specs.declared.policy.Instant.{Instant}
-use Rattle.moka_parts.specs.declared.records.Member.{Member}
-use Rattle.moka_parts.specs.declared.records.Ticketed.{Ticketed}
-use Rattle.moka_parts.specs.declared.records.ReadOperation.{ReadOperation}
+use Rattle.moka_records.specs.declared.instant.Instant.{Instant}
+use Rattle.moka_records.specs.declared.records.Member.{Member}
+use Rattle.moka_records.specs.declared.records.Ticketed.{Ticketed}
+use Rattle.moka_records.specs.declared.records.ReadOperation.{ReadOperation}
 use Rattle.moka_parts.specs.declared.records.Registered.{Registered}
-use Rattle.moka_parts.specs.Time.{greatest}
+use Rattle.moka_records.specs.Time.{greatest}
 use Rattle.moka_parts.specs.Policy.{Limits}
-use Rattle.moka_parts.specs.Records.{Records, Operations, Notice, total_weight}
+use Rattle.moka_records.specs.Records.{Records, Operations, total_weight}
+use Rattle.moka_parts.specs.Notices.{Notice}
 use Rattle.moka_parts.specs.Frequency.{Table}
 use Rattle.moka_parts.specs.Housekeeping.{Housekeeping, new_housekeeping}
 

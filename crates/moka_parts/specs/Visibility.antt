@@ -1,10 +1,10 @@
 -- Which records are visible at a moment.
 use Rattle.std.specs.Prelude.{◌≡◌, ℕ, Bool, true, false, ◌||◌, ◌≤◌, List, [], ◌∷◌, Option, Some, None, ◌⊎◌, MatchBool}
 use Rattle.uuid.specs.declared.Uuid.{Uuid}
-use Rattle.moka_parts.specs.declared.policy.Instant.{Instant}
-use Rattle.moka_parts.specs.declared.records.Record.{Record}
+use Rattle.moka_records.specs.declared.instant.Instant.{Instant}
+use Rattle.moka_records.specs.declared.records.Record.{Record}
 use Rattle.moka_parts.specs.declared.records.Registered.{Registered}
-use Rattle.moka_parts.specs.Time.{has_passed, is_before, deadline, moment_of}
+use Rattle.moka_records.specs.Time.{has_passed, is_before, deadline, moment_of}
 use Rattle.moka_parts.specs.State.{Settings, State}
 
 -- it has expired by its own expiry

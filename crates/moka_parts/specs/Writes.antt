@@ -5,12 +5,13 @@ use Rattle.std.specs.FinMap.{get, insert, remove}
 use Rattle.moka_parts.specs.declared.notification.RemovalCause.TheVariants.{Size}
 use Rattle.moka_parts.specs.declared.policy.EvictionPolicy.{EvictionPolicy}
 use Rattle.moka_parts.specs.declared.policy.EvictionPolicy.TheVariants.{TinyLfu, Lru}
-use Rattle.moka_parts.specs.declared.records.Record.{Record}
-use Rattle.moka_parts.specs.declared.records.Member.{Member}
-use Rattle.moka_parts.specs.declared.records.Operation.{Operation}
-use Rattle.moka_parts.specs.declared.records.Operation.TheVariants.{Upsert, Removal}
-use Rattle.moka_parts.specs.declared.records.Ticketed.{Ticketed}
-use Rattle.moka_parts.specs.Records.{Records, Notice, member, is_member, to_back, without_member, without_members, all_to_back, total_weight, has_room}
+use Rattle.moka_records.specs.declared.records.Record.{Record}
+use Rattle.moka_records.specs.declared.records.Member.{Member}
+use Rattle.moka_records.specs.declared.records.Operation.{Operation}
+use Rattle.moka_records.specs.declared.records.Operation.TheVariants.{Upsert, Removal}
+use Rattle.moka_records.specs.declared.records.Ticketed.{Ticketed}
+use Rattle.moka_records.specs.Records.{Records, member, is_member, to_back, without_member, without_members, all_to_back, total_weight, has_room}
+use Rattle.moka_parts.specs.Notices.{Notice}
 use Rattle.moka_parts.specs.State.{Contents}
 use Rattle.moka_parts.specs.Candidates.{victims_for, is_preferred, are_unsettled}
 

@@ -2,8 +2,7 @@
 //! moka: the free functions of `sync::base_cache`.
 ghost use Rattle.std.specs.Prelude.{◌≡◌, ◌||◌, not, option_map, if◌then◌else◌};
 ghost use Rattle.std.specs.Duration.{as_nanos};
-ghost use Rattle.moka_parts.specs.Time.{has_passed, is_before, deadline, earlier as earlier_of};
-ghost use Rattle.moka_parts.specs.Time.{moment_of, is_same_duration};
+ghost use Rattle.moka_records.specs.Time.{has_passed, is_before, deadline, earlier as earlier_of, moment_of, is_same_duration};
 ghost use Rattle.moka_parts.specs.Expiry.{time_left, expires_after};
 
 use crate::policy::{ExpirationPolicy, Instant};

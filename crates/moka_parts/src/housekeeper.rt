@@ -24,7 +24,7 @@ pub const EVICTION_BATCH_SIZE: u32 = 384;
 
 /// Tells moments, which may go back.
 pub trait Clock {
-    ghost use Rattle.moka_parts.specs.declared.policy.Instant.{Instant};
+    ghost use Rattle.moka_records.specs.declared.instant.Instant.{Instant};
 
     /// One reading may answer the moment and lead from the first state to the second.
     ghost reads: { Self → Instant → Self → Type 0 };
@@ -52,7 +52,7 @@ impl Clock for FixedClock {
 pub trait InnerSync {
     ghost use Rattle.std.specs.Prelude.{ℕ, Bool, List, Option, option_map};
     ghost use Rattle.std.specs.Duration.{as_nanos};
-    ghost use Rattle.moka_parts.specs.declared.policy.Instant.{Instant};
+    ghost use Rattle.moka_records.specs.declared.instant.Instant.{Instant};
     ghost use Rattle.moka_parts.specs.Surroundings.{Leads};
 
     /// A run at the moment, with this limit in nanoseconds, these repeats and this batch, may

@@ -1,6 +1,6 @@
 //! The parts of a cache engine: policies, listeners, weighers and predicates, the tests by moments,
-//! the housekeeper, and the plain types of records, operations, calls and replies. The folder
-//! `specs/` holds the reference cache, which says what the engine does.
+//! the housekeeper, and the plain types of calls and replies, beside those of records from `moka_records`.
+//! The folder `specs/` holds the reference cache, which says what the engine does.
 #![tactic(auto)]
 
 pub mod calls;
@@ -9,9 +9,10 @@ pub mod error;
 pub mod expiry;
 pub mod housekeeper;
 pub mod invalidator;
-pub mod key_test;
 pub mod notification;
 pub mod policy;
-pub mod record_ref;
 pub mod records;
+pub mod restores;
 pub mod stats;
+
+pub use moka_records::{key_test, record_ref};

@@ -11,9 +11,9 @@ use Rattle.moka_parts.specs.declared.calls.Reply.{Reply}
 use Rattle.moka_parts.specs.declared.calls.Reply.TheVariants as reply
 use Rattle.moka_parts.specs.declared.calls.KvEntry.{KvEntry}
 use Rattle.moka_parts.specs.declared.calls.Ticket.{Ticket}
-use Rattle.moka_parts.specs.declared.policy.Instant.{Instant}
+use Rattle.moka_records.specs.declared.instant.Instant.{Instant}
 use Rattle.moka_parts.specs.declared.error.OutOfMemory.{OutOfMemory}
-use Rattle.moka_parts.specs.Records.{when_listening}
+use Rattle.moka_parts.specs.Notices.{when_listening}
 use Rattle.moka_parts.specs.State as state
 use Rattle.moka_parts.specs.State.{State, Meaning, Events}
 use Rattle.moka_parts.specs.Maintenance.{MaintenanceRun}
@@ -23,9 +23,9 @@ use Rattle.moka_parts.specs.Calls.{NotifiesAfter}
 use Rattle.moka_parts.specs.Runs.{Step, CallStep, AreSteps, PromisedRun, calls_of, notices_of, last_state}
 use Rattle.moka_parts.specs.Laws.{values_of, values_put, values_handed, values_told, AllConserveValues}
 use Rattle.moka_laws.proofs.ConservedCalls.{tells_each_once}
-use Rattle.moka_parts.specs.declared.records.Record.{Record}
+use Rattle.moka_records.specs.declared.records.Record.{Record}
 use Rattle.moka_laws.proofs.NewCache.{new_is_valid}
-use Rattle.moka_parts.proofs.Values.{values-empty}
+use Rattle.moka_records.proofs.Values.{values-empty}
 use Rattle.moka_laws.proofs.Promises.{weaker_steps}
 use Rattle.moka_script.specs.declared.key_range.KeyRange.{KeyRange}
 use Rattle.moka_script.specs.Calls.{CallText}

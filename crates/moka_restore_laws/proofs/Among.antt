@@ -3,7 +3,7 @@ use Rattle.std.proofs.Common.{refl, ℕ, List, [], ◌∷◌, ◌++◌, Result, 
 use Rattle.std.specs.Cmp.{IsEquivalence}
 use Rattle.moka_parts.specs.declared.calls.Call.{Call}
 use Rattle.moka_parts.specs.declared.calls.Reply.{Reply}
-use Rattle.moka_parts.specs.declared.policy.Instant.{Instant}
+use Rattle.moka_records.specs.declared.instant.Instant.{Instant}
 use Rattle.moka_parts.specs.Maintenance.{MaintenanceRun}
 use Rattle.moka_parts.specs.Runs.{AreSteps, Engine, PromisedRun}
 use Rattle.moka_parts.specs.Settling.{IsValid}
@@ -12,8 +12,8 @@ use Rattle.moka_parts.proofs.RunsGoOn.{promised_is_run}
 use Rattle.moka_laws.proofs.ConservedCalls.{tells_each_once}
 use Rattle.moka_laws.proofs.Promises.{weaker_steps}
 use Rattle.moka_laws.proofs.StepsKeep.{calls_keep}
-use Rattle.moka_engine.specs.declared.base_cache.restores.Restored.{Restored}
-use Rattle.moka_engine.specs.declared.base_cache.restores.RestoreRefused.{RestoreRefused}
+use Rattle.moka_engine.specs.parts.Restored.{Restored}
+use Rattle.moka_engine.specs.parts.RestoreRefused.{RestoreRefused}
 use Rattle.moka_engine.proofs.RestoreSteps.{restored_valid}
 use Rattle.moka_calls.specs.Synchronous.{Made}
 use Rattle.moka_cache.specs.declared.cache.saves.RestoreManyRefused.{RestoreManyRefused}

@@ -6,19 +6,19 @@ use Rattle.std.proofs.lemmas.List.Sorted.{sum_by-IsPermutation}
 use Rattle.std.proofs.lemmas.Option.{same_Some}
 use Rattle.moka_parts.specs.declared.calls.Entry.{Entry}
 use Rattle.moka_parts.specs.declared.error.OutOfMemory.{OutOfMemory}
-use Rattle.moka_parts.specs.declared.records.Operation.TheVariants.{Upsert}
-use Rattle.moka_parts.specs.declared.records.ReadOperation.{ReadOperation}
-use Rattle.moka_parts.specs.declared.records.ReadOperation.TheVariants.{Miss}
-use Rattle.moka_parts.specs.declared.records.Record.{Record}
+use Rattle.moka_records.specs.declared.records.Operation.TheVariants.{Upsert}
+use Rattle.moka_records.specs.declared.records.ReadOperation.{ReadOperation}
+use Rattle.moka_records.specs.declared.records.ReadOperation.TheVariants.{Miss}
+use Rattle.moka_records.specs.declared.records.Record.{Record}
 use Rattle.moka_parts.specs.Calls.{ContainsStep, GetsAt, GetStep, RecordsRead, RunsIfDue, ScansAt, ScanStep, Unchanged, after_hit, hit_at, hit_operation, hit_record, queueing}
 use Rattle.moka_parts.specs.Exact.{weight_of_records}
 use Rattle.moka_parts.specs.Listed.{ListedRun}
-use Rattle.moka_parts.specs.Records.{counted_of, record_of_key}
+use Rattle.moka_records.specs.Records.{counted_of, record_of_key}
 use Rattle.moka_parts.specs.Settling.{IsValid, IsWaiting}
 use Rattle.moka_parts.specs.State.{State, Settings, Events, is_disabled}
 use Rattle.moka_parts.specs.Visibility.{IsHidden, IsShown, IsVisible, SomeCovers}
-use Rattle.moka_parts.proofs.Maps.{found_inserted, get_inserted, get_past_insert, same_or_apart}
-use Rattle.moka_parts.proofs.Values.{values_replaced}
+use Rattle.moka_records.proofs.Maps.{found_inserted, get_inserted, get_past_insert, same_or_apart}
+use Rattle.moka_records.proofs.Values.{values_replaced}
 use Rattle.moka_laws.proofs.CallsKeep.{record_at_its_number}
 use Rattle.moka_laws.proofs.Kept.{kept_by_due}
 use Rattle.moka_cache.specs.Saved.{AreAsWeighed, HasRoomFor, IsRoomyFor, KeepsRecords, KeepsUnexpired}

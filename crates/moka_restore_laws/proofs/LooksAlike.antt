@@ -9,8 +9,8 @@ use Rattle.moka_parts.specs.declared.calls.Call.TheVariants as call
 use Rattle.moka_parts.specs.declared.calls.Entry.{Entry}
 use Rattle.moka_parts.specs.declared.calls.Reply.{Reply}
 use Rattle.moka_parts.specs.declared.calls.Reply.TheVariants as reply
-use Rattle.moka_parts.specs.declared.policy.Instant.{Instant}
-use Rattle.moka_parts.specs.declared.records.Record.{Record}
+use Rattle.moka_records.specs.declared.instant.Instant.{Instant}
+use Rattle.moka_records.specs.declared.records.Record.{Record}
 use Rattle.moka_parts.specs.Calls.{after_hit, hit_record}
 use Rattle.moka_parts.specs.Copies.{ClonesAreEqual}
 use Rattle.moka_parts.specs.Laws.{IsNoEarlier, later_of, moment_in}
@@ -18,12 +18,12 @@ use Rattle.moka_parts.specs.Listed.{AreListedSteps, ListedRun}
 use Rattle.moka_parts.specs.Runs.{CallStep, Step, calls_of, replies_of}
 use Rattle.moka_parts.specs.Settling.{IsValid}
 use Rattle.moka_parts.specs.State.{State, Settings, Meaning, Events}
-use Rattle.moka_parts.proofs.Lookup.{record_of_key_found, present_key}
-use Rattle.moka_parts.proofs.Maps.{found_inserted, get_inserted, get_past_insert, same_or_apart}
+use Rattle.moka_records.proofs.Lookup.{record_of_key_found, present_key}
+use Rattle.moka_records.proofs.Maps.{found_inserted, get_inserted, get_past_insert, same_or_apart}
 use Rattle.moka_laws.proofs.CallsKeep.{record_at_its_number}
 use Rattle.moka_laws.proofs.OrderedDrive.{listed_call_made}
 use Rattle.moka_laws.proofs.StepsKeep.{call_keeps}
-use Rattle.moka_engine.specs.declared.base_cache.restores.Restored.{Restored}
+use Rattle.moka_engine.specs.parts.Restored.{Restored}
 use Rattle.moka_cache.specs.Saved.{IsRoomyFor}
 use Rattle.moka_restore_laws.specs.Looks.{AreInTime, IsAnswered, IsLikeFirst, LookAlike, LooksAnswerAlike}
 use Rattle.moka_restore_laws.proofs.MadeAgain.{clone_from, cloned, written_in_first}

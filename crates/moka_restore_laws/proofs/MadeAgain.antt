@@ -6,23 +6,23 @@ use Rattle.std.specs.FinMap.{get}
 use Rattle.std.specs.List.{IsDistinct, sum_by}
 use Rattle.std.proofs.lemmas.List.Elements.{Contains-append_left, Contains-append_right, Contains-append_cases, Contains-push, Contains-push_cases}
 use Rattle.std.proofs.lemmas.Option.{same_Some}
-use Rattle.moka_parts.specs.declared.records.Member.{Member}
-use Rattle.moka_parts.specs.declared.records.Operation.TheVariants.{Upsert}
-use Rattle.moka_parts.specs.declared.records.Record.{Record}
+use Rattle.moka_records.specs.declared.records.Member.{Member}
+use Rattle.moka_records.specs.declared.records.Operation.TheVariants.{Upsert}
+use Rattle.moka_records.specs.declared.records.Record.{Record}
 use Rattle.moka_parts.specs.Copies.{ClonesAreEqual}
 use Rattle.moka_parts.specs.Exact.{weight_of_records}
-use Rattle.moka_parts.specs.Records.{counted_of, is_member, numbers_of}
+use Rattle.moka_records.specs.Records.{counted_of, is_member, numbers_of}
 use Rattle.moka_parts.specs.Settling.{IsValid}
 use Rattle.moka_parts.specs.State.{State, Settings}
-use Rattle.moka_parts.specs.Time.{has_passed, deadline, moment_of}
+use Rattle.moka_records.specs.Time.{has_passed, deadline, moment_of}
 use Rattle.moka_parts.specs.Visibility.{is_expired, is_past_live, is_past_idle, is_written_before, is_read_before, IsVisible}
 use Rattle.moka_laws.proofs.Contained.{not_both}
-use Rattle.moka_parts.proofs.Lookup.{record_of_key_found, present_key}
-use Rattle.moka_parts.proofs.Maps.{same_by_test, nothing_at}
+use Rattle.moka_records.proofs.Lookup.{record_of_key_found, present_key}
+use Rattle.moka_records.proofs.Maps.{same_by_test, nothing_at}
 use Rattle.moka_laws.proofs.OrderKept.{of_each}
-use Rattle.moka_parts.proofs.Values.{values-empty}
+use Rattle.moka_records.proofs.Values.{values-empty}
 use Rattle.moka_laws.proofs.Surplus.{none_of_five}
-use Rattle.moka_engine.specs.declared.base_cache.restores.Restored.{Restored}
+use Rattle.moka_engine.specs.parts.Restored.{Restored}
 use Rattle.moka_engine.specs.Snapshots.{Seen, IsListed, scene_of}
 use Rattle.moka_cache.specs.Saved.{AreAsWeighed, AreSaved, IsOfItem, IsSaved, IsRestored, HasRoomFor, has_expired}
 use Rattle.moka_cache.proofs.Membership.{none_waits}

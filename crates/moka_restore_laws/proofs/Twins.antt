@@ -1,11 +1,11 @@
 -- Records of two caches that are alike, what hits make of them, and when they have expired.
 use Rattle.std.proofs.Common.{◌≡◌, refl, ℕ, ◌≤◌, false, Option, Some, None, ap, sym, ◌∙◌, ◌⊎◌, inl, inr, arith}
 use Rattle.std.specs.FinMap.{get}
-use Rattle.moka_parts.specs.declared.records.Record.{Record}
+use Rattle.moka_records.specs.declared.records.Record.{Record}
 use Rattle.moka_parts.specs.Calls.{hit_at, answer_at, hit_record}
 use Rattle.moka_parts.specs.Expiry.{moment_of_hit, renewed, answer_to_hit}
 use Rattle.moka_parts.specs.State.{State}
-use Rattle.moka_parts.specs.Time.{deadline, moment_of}
+use Rattle.moka_records.specs.Time.{deadline, moment_of}
 use Rattle.moka_parts.specs.Visibility.{has_lapsed, is_expired, is_past_live, is_past_idle, is_written_before, is_read_before}
 use Rattle.moka_laws.proofs.Surplus.{none_of_five}
 use Rattle.moka_restore_laws.specs.Looks.{AreWrittenBy}

@@ -1,14 +1,14 @@
 -- A cache that is made again of what was saved of another.
 use Rattle.std.specs.Prelude.{◌≡◌, ℕ, ◌≤◌, Bool, false, List, [], Some, None, ◌↔◌}
 use Rattle.std.specs.FinMap.{empty}
-use Rattle.moka_parts.specs.declared.records.Record.{Record}
+use Rattle.moka_records.specs.declared.records.Record.{Record}
 use Rattle.moka_parts.specs.Copies.{ClonesAreEqual}
-use Rattle.moka_parts.specs.Records.{record_of_key}
+use Rattle.moka_records.specs.Records.{record_of_key}
 use Rattle.moka_parts.specs.Runs.{IsEmpty}
 use Rattle.moka_parts.specs.Settling.{IsValid}
 use Rattle.moka_parts.specs.State.{State, is_disabled}
 use Rattle.moka_parts.specs.Visibility.{IsVisible}
-use Rattle.moka_engine.specs.declared.base_cache.restores.Restored.{Restored}
+use Rattle.moka_engine.specs.parts.Restored.{Restored}
 use Rattle.moka_engine.specs.Snapshots.{scene_of}
 use Rattle.moka_cache.specs.Saved.{AddsOnly, AreSaved, AreThere, HasOnlyMembers, IsRoomyFor, WeighAtMost}
 use Rattle.moka_cache.specs.Unsent.{HidesNoMore}

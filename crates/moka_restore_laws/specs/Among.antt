@@ -2,13 +2,13 @@
 use Rattle.std.specs.Prelude.{◌≡◌, ℕ, true, List, [], ◌∷◌, ◌++◌, map, Result, Ok, Err}
 use Rattle.moka_parts.specs.declared.calls.Call.{Call}
 use Rattle.moka_parts.specs.declared.calls.Reply.{Reply}
-use Rattle.moka_parts.specs.declared.policy.Instant.{Instant}
+use Rattle.moka_records.specs.declared.instant.Instant.{Instant}
 use Rattle.moka_parts.specs.Laws.{AllConserveValues}
 use Rattle.moka_parts.specs.Runs.{Engine}
 use Rattle.moka_parts.specs.Settling.{IsValid}
 use Rattle.moka_parts.specs.State.{Meaning}
-use Rattle.moka_engine.specs.declared.base_cache.restores.Restored.{Restored}
-use Rattle.moka_engine.specs.declared.base_cache.restores.RestoreRefused.{RestoreRefused}
+use Rattle.moka_engine.specs.parts.Restored.{Restored}
+use Rattle.moka_engine.specs.parts.RestoreRefused.{RestoreRefused}
 use Rattle.moka_calls.specs.Synchronous.{Made}
 use Rattle.moka_cache.specs.declared.cache.saves.RestoreManyRefused.{RestoreManyRefused}
 use Rattle.moka_cache.specs.Saved.{PutsBack, PutsManyBack}

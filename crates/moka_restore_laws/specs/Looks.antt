@@ -6,14 +6,14 @@ use Rattle.moka_parts.specs.declared.calls.Call.{Call}
 use Rattle.moka_parts.specs.declared.calls.Call.TheVariants as call
 use Rattle.moka_parts.specs.declared.calls.Reply.{Reply}
 use Rattle.moka_parts.specs.declared.calls.Reply.TheVariants as reply
-use Rattle.moka_parts.specs.declared.policy.Instant.{Instant}
-use Rattle.moka_parts.specs.declared.records.Record.{Record}
+use Rattle.moka_records.specs.declared.instant.Instant.{Instant}
+use Rattle.moka_records.specs.declared.records.Record.{Record}
 use Rattle.moka_parts.specs.Copies.{ClonesAreEqual}
 use Rattle.moka_parts.specs.Laws.{IsNoEarlier, later_of, moment_in}
 use Rattle.moka_parts.specs.Runs.{Engine}
 use Rattle.moka_parts.specs.Settling.{IsValid}
 use Rattle.moka_parts.specs.State.{State, Meaning, is_disabled}
-use Rattle.moka_engine.specs.declared.base_cache.restores.Restored.{Restored}
+use Rattle.moka_engine.specs.parts.Restored.{Restored}
 use Rattle.moka_calls.specs.Synchronous.{Made, Makes, Just, own_run}
 use Rattle.moka_cache.specs.Saved.{IsRoomyFor, TakesOnlyExpired}
 use Rattle.moka_restore_laws.specs.Again.{IsMadeAgain}

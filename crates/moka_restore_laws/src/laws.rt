@@ -2,7 +2,7 @@
 //! does nothing.
 ghost use Rattle.moka_calls.specs.Laws.{anytime};
 ghost use Rattle.moka_calls.specs.Synchronous.{meaning_of};
-ghost use Rattle.moka_parts.specs.Hashing.{key_hash};
+ghost use Rattle.moka_records.specs.Hashing.{key_hash};
 ghost use Rattle.moka_restore_laws.specs.Again.{AnswersAlike, EmptyHasRoom, MadeAgainAnswersAlike};
 ghost use Rattle.moka_restore_laws.specs.Among.{RestoresAmongCalls};
 ghost use Rattle.moka_restore_laws.specs.Looks.{LooksAnswerAlike, RunLeavesRoom};

@@ -1,7 +1,7 @@
 //! Which segment a key belongs to. moka: `sync::segment`, `select`.
 ghost use Rattle.std.specs.Prelude.{◌≡◌, ◌<◌, max};
 ghost use Rattle.moka_router.specs.Routing.{segment_of, share};
-ghost use Rattle.moka_parts.specs.Hashing.{key_hash};
+ghost use Rattle.moka_records.specs.Hashing.{key_hash};
 
 use std::hash::{BuildHasher, Hash};
 use std::marker::Model;

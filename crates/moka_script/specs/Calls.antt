@@ -5,7 +5,7 @@ use Rattle.std.specs.declared.time.Duration.{Duration}
 use Rattle.std.specs.Str.{bytes_eq}
 use Rattle.moka_parts.specs.declared.calls.Call.{Call}
 use Rattle.moka_parts.specs.declared.calls.Call.TheVariants.{Insert, Send, Get, GetUnrecorded, Scan, Contains, Key, Remove, InvalidateAll, InvalidateIf, Run, RunIfDue, Keys, Report, Pending, SetCapacity}
-use Rattle.moka_parts.specs.declared.policy.Instant.{Instant}
+use Rattle.moka_records.specs.declared.instant.Instant.{Instant}
 use Rattle.moka_script.specs.declared.key_range.KeyRange.{KeyRange}
 use Rattle.moka_script.specs.declared.script.calls.LineCall.{LineCall}
 use Rattle.moka_script.specs.declared.script.calls.LineCall.TheVariants as line_call

@@ -4,7 +4,7 @@ use Rattle.std.specs.List.{flat_map}
 use Rattle.moka_parts.specs.declared.calls.Call.TheVariants.{Insert, Remove}
 use Rattle.moka_parts.specs.declared.notification.RemovalCause.{RemovalCause}
 use Rattle.moka_parts.specs.declared.notification.RemovalCause.TheVariants.{Expired, Explicit, Replaced, Size}
-use Rattle.moka_parts.specs.Records.{Notice}
+use Rattle.moka_parts.specs.Notices.{Notice}
 use Rattle.moka_script.specs.Calls.{CallText}
 
 -- a key, a value and why it left

@@ -1,7 +1,7 @@
 -- Each call of a cache in segments leaves keys where they belong, since it is moves that insert no key but its own.
 use Rattle.std.proofs.Common.{◌≡◌, ℕ, suc, Bool, List, [], ◌∷◌, Option, Some, None, Result, Ok, Err, inl, inr, sym, subst}
 use Rattle.uuid.specs.declared.Uuid.{Uuid}
-use Rattle.moka_parts.specs.declared.policy.Instant.{Instant}
+use Rattle.moka_records.specs.declared.instant.Instant.{Instant}
 use Rattle.moka_parts.specs.declared.calls.Call.{Call}
 use Rattle.moka_parts.specs.declared.calls.Call.TheVariants as call
 use Rattle.moka_parts.specs.declared.calls.Reply.{Reply}

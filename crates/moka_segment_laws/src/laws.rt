@@ -1,5 +1,5 @@
 //! Laws of a cache in segments. The contract of each function is a law, and its body does nothing.
-ghost use Rattle.moka_parts.specs.Hashing.{key_hash};
+ghost use Rattle.moka_records.specs.Hashing.{key_hash};
 ghost use Rattle.moka_calls.specs.Laws.{KeepsPromises, MadeRunsAgeOut, anytime};
 ghost use Rattle.moka_calls.specs.Limits.{KeepsLimits};
 ghost use Rattle.moka_calls.specs.Synchronous.{meaning_of};

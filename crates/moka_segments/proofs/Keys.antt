@@ -2,16 +2,17 @@
 use Rattle.std.proofs.Common.{◌≡◌, ℕ, Bool, List, [], ◌∷◌, Option, Some, ap, sym, subst, ◌∙◌, inl, inr}
 use Rattle.std.specs.FinMap.{get, insert, remove}
 use Rattle.std.proofs.lemmas.Option.{same_Some}
-use Rattle.moka_parts.specs.declared.records.Record.{Record}
+use Rattle.moka_records.specs.declared.records.Record.{Record}
 use Rattle.moka_parts.specs.declared.calls.Call.{Call}
 use Rattle.moka_parts.specs.declared.calls.Reply.{Reply}
 use Rattle.moka_parts.specs.Listed.{ListedRun, AreListedSteps}
 use Rattle.moka_parts.specs.Maintenance.{Terms, Course}
-use Rattle.moka_parts.specs.Records.{Notice, Records, record_of_key}
+use Rattle.moka_parts.specs.Notices.{Notice}
+use Rattle.moka_records.specs.Records.{Records, record_of_key}
 use Rattle.moka_parts.specs.Runs.{Engine, CallStep, Step, calls_of, last_state}
 use Rattle.moka_parts.specs.State.{State, Meaning, Events}
-use Rattle.moka_parts.proofs.Lookup.{record_of_key_found}
-use Rattle.moka_parts.proofs.Maps.{same_or_apart, get_inserted, get_past_insert, nothing_at}
+use Rattle.moka_records.proofs.Lookup.{record_of_key_found}
+use Rattle.moka_records.proofs.Maps.{same_or_apart, get_inserted, get_past_insert, nothing_at}
 use Rattle.moka_laws.proofs.RunKeeps.{Keeps, keeps_remove}
 use Rattle.moka_laws.proofs.EachCall.{IsKept, kept_by_call}
 use Rattle.moka_calls.specs.Synchronous.{Made}

@@ -4,7 +4,7 @@ use Rattle.std.specs.List.{IsFirstAndRest}
 use Rattle.uuid.specs.declared.Uuid.{Uuid}
 use Rattle.moka_parts.specs.declared.error.PredicateRefused.{PredicateRefused}
 use Rattle.moka_parts.specs.declared.notification.RemovalCause.{RemovalCause}
-use Rattle.moka_parts.specs.declared.policy.Instant.{Instant}
+use Rattle.moka_records.specs.declared.instant.Instant.{Instant}
 use Rattle.moka_calls.specs.Synchronous.{Synchronous}
 use Rattle.moka_segments.specs.Registering.{AllRegister, Registers, HasNoRoom}
 use Rattle.moka_router.specs.Routing.{Routing}

@@ -3,7 +3,7 @@ use Rattle.std.proofs.Common.{◌≡◌, ℕ, ◌+◌, ◌<◌, ◌≤◌, List,
 use Rattle.std.proofs.Math.Seq.{take-suc}
 use Rattle.std.proofs.lemmas.List.{take_all}
 use Rattle.std.proofs.lemmas.List.Sums.{sum_by_more}
-use Rattle.moka_parts.specs.Time.{plus}
+use Rattle.moka_records.specs.Time.{plus}
 use Rattle.moka_parts.specs.declared.stats.Stats.{Stats}
 use Rattle.moka_calls.specs.Synchronous.{Synchronous}
 use Rattle.moka_segments.specs.Whole.{both, both_stats, saturated, whole_capacity, total, total_stats}

@@ -5,7 +5,7 @@ use Rattle.uuid.specs.declared.Uuid.{Uuid}
 use Rattle.moka_parts.specs.declared.error.PredicateError.TheVariants as predicate_error
 use Rattle.moka_parts.specs.declared.error.PredicateRefused.{PredicateRefused}
 use Rattle.moka_parts.specs.declared.notification.RemovalCause.{RemovalCause}
-use Rattle.moka_parts.specs.declared.policy.Instant.{Instant}
+use Rattle.moka_records.specs.declared.instant.Instant.{Instant}
 use Rattle.moka_parts.specs.Calls.{InvalidateStep, only_ids}
 use Rattle.moka_parts.specs.Runs.{Befalls}
 use Rattle.moka_parts.specs.State.{Events}

@@ -1,6 +1,6 @@
 -- What a call that concerns all segments makes of them, and what it tells of their sum.
 use Rattle.std.specs.Prelude.{ℕ, ◌+◌, ◌≤◌, min, List, [], ◌∷◌, Option, Some, None, sum_by, ⊤}
-use Rattle.moka_parts.specs.Time.{greatest, plus}
+use Rattle.moka_records.specs.Time.{greatest, plus}
 use Rattle.moka_parts.specs.declared.stats.Stats.{Stats}
 use Rattle.moka_calls.specs.Synchronous.{Synchronous}
 pub use Rattle.moka_each.specs.Each.{Hides, Ran, AllRan}

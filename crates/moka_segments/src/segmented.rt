@@ -1,8 +1,8 @@
 //! The segmented cache, and its calls by key. moka: `sync::segment`.
 ghost use Rattle.std.specs.Prelude.{◌≡◌, ◌<◌, false, length, IfErr, option_map};
 ghost use Rattle.moka_parts.specs.Calls.{ContainsStep};
-ghost use Rattle.moka_parts.specs.Hashing.{key_hash};
-ghost use Rattle.moka_parts.specs.Records.{record_of_key};
+ghost use Rattle.moka_records.specs.Hashing.{key_hash};
+ghost use Rattle.moka_records.specs.Records.{record_of_key};
 ghost use Rattle.moka_calls.specs.Synchronous.{meaning_of, removed, invalidated, taken_out};
 ghost use Rattle.moka_router.specs.Routing.{segment_of};
 ghost use Rattle.moka_segments.specs.Segmented.{Holds, HoldsIfThere, IsAt, Steps as StepsIn};

@@ -5,11 +5,11 @@ use Rattle.std.specs.FinMap.{get, remove}
 use Rattle.std.specs.List.{IsDistinct, AllByRecursion}
 use Rattle.std.specs.Map.{keys_of}
 use Rattle.std.specs.Option.{option_map, option_and_then}
-use Rattle.moka_store.proofs.TableCalls.{get-places, placed_row}
-use Rattle.moka_index.proofs.Maps.{option-cases}
-use Rattle.moka_store.proofs.TableMaps.{altered-same}
-use Rattle.moka_store.specs.declared.table.membership.Membership.{Membership}
-use Rattle.moka_store.specs.RecordTable.{Row, row_at, number_at, places_of}
+use Rattle.moka_table.proofs.TableCalls.{get-places, placed_row}
+use Rattle.moka_links.proofs.FinMaps.{option-cases}
+use Rattle.moka_table.proofs.TableMaps.{altered-same}
+use Rattle.moka_table.specs.declared.table.membership.Membership.{Membership}
+use Rattle.moka_table.specs.RecordTable.{Row, row_at, number_at, places_of}
 use Rattle.moka_store.proofs.Nodes.{any-none, here, later, node-in}
 use Rattle.moka_store.proofs.Slots.{slot-row, no-node, one-node}
 use Rattle.moka_store.proofs.Ties.{counted-row, counted-unplaced}
@@ -21,11 +21,10 @@ use Rattle.moka_store.specs.Store.{Kept, IsOff, number_after, cursor_past}
 use Rattle.moka_store.specs.Listing.{Listing, IsCursor}
 use Rattle.moka_store.specs.StoreRows.{written_in, member_at, written_of, cursor_of}
 use Rattle.moka_store.specs.StoreTies.{KeyIndex, IsTied, IsWritten, IsTimed, kept_of}
-use Rattle.moka_parts.specs.declared.records.Record.{Record}
-use Rattle.moka_parts.proofs.Maps.{apart_turned}
-use Rattle.moka_parts.proofs.WriteList.{unlisted_taken_out}
-use Rattle.moka_parts.specs.Order.{IsListOf}
-use Rattle.moka_parts.specs.Records.{is_listed, without_number, is_member}
+use Rattle.moka_records.specs.declared.records.Record.{Record}
+use Rattle.moka_records.proofs.Maps.{apart_turned}
+use Rattle.moka_records.proofs.WriteList.{unlisted_taken_out}
+use Rattle.moka_records.specs.Records.{IsListOf, is_listed, without_number, is_member}
 
 module _ (g : ℕ × ℕ → ℕ) where
   all-apart : (m : ℕ × ℕ) (nodes : List (ℕ × ℕ)) → ((k : ℕ × ℕ) → Contains nodes k → (g k == g m) ≡ nat_eq m.0 k.0) → AllByRecursion (λ y. nat_eq m.0 y ≡ false) (keys_of nodes) → AllByRecursion (λ y. (g m == y) ≡ false) (map g nodes)

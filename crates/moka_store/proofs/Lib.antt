@@ -1,4 +1,3 @@
-pub mod ColdRows
 mod Fitting
 pub mod Gets
 pub mod Keys
@@ -9,14 +8,9 @@ pub mod Members
 pub mod Nodes
 pub mod Orders
 pub mod Places
-pub mod Reserving
-pub mod RowCalls
 pub mod Slots
 pub mod Steps
-pub mod TableCalls
-pub mod TableMaps
 pub mod Ties
 pub mod Timed
 pub mod Weights
-pub mod WholeMaps
 pub mod Written

@@ -5,13 +5,13 @@ use Rattle.std.proofs.lemmas.List.Sorted.{IsPermutation-sym, IsPermutation-cons,
 use Rattle.std.specs.Prelude.{IsPermutation}
 use Rattle.std.specs.FinMap.{values, insert}
 use Rattle.std.specs.Option.{option_map, option_and_then}
-use Rattle.moka_store.specs.RecordTable.{Row, row_at, stored_at, answer_at, records_of, IsNumbered}
-use Rattle.moka_index.specs.EntryMap.{put_entry, upto}
-use Rattle.moka_index.proofs.Maps.{upto-fresh, upto-past}
-use Rattle.moka_store.proofs.TableMaps.{answer-of, answers-apart}
-use Rattle.moka_store.proofs.TableCalls.{stored_row}
-use Rattle.moka_parts.proofs.Values.{values_inserted, values-empty}
-use Rattle.moka_parts.specs.declared.records.Record.{Record}
+use Rattle.moka_table.specs.RecordTable.{Row, row_at, stored_at, answer_at, records_of, IsNumbered}
+use Rattle.moka_links.specs.EntryMap.{put_entry, upto}
+use Rattle.moka_links.proofs.EntryMaps.{upto-fresh, upto-past}
+use Rattle.moka_table.proofs.TableMaps.{answer-of, answers-apart}
+use Rattle.moka_table.proofs.TableCalls.{stored_row}
+use Rattle.moka_records.proofs.Values.{values_inserted, values-empty}
+use Rattle.moka_records.specs.declared.records.Record.{Record}
 
 -- the record in a row, at whatever place
 abbrev record_in : {R : Type 0} → ℕ → Row R → Option R

@@ -2,8 +2,8 @@
 use Rattle.std.proofs.Common.{◌≡◌, ℕ, Bool, true, false, List, Option, Some, None, IsSome, refl, sym, ap, ◌∙◌}
 use Rattle.std.proofs.lemmas.Bool.{false≢true}
 use Rattle.std.specs.Option.{option_map_or}
-use Rattle.moka_store.specs.RecordTable.{Row, row_at, number_at, stored_at}
-use Rattle.moka_store.proofs.TableMaps.{read-of}
+use Rattle.moka_table.specs.RecordTable.{Row, row_at, number_at, stored_at}
+use Rattle.moka_table.proofs.TableMaps.{read-of}
 
 module _ {R : Type 0} (rows : List (Option (Row R))) (place number : ℕ) where
   -- the row at the place has this number and record

@@ -4,10 +4,10 @@ use Rattle.std.proofs.lemmas.Bool.{eq-eqb, cond-true, cond-false}
 use Rattle.std.proofs.lemmas.List.{append-nil}
 use Rattle.std.specs.Option.{option_map}
 use Rattle.std.specs.Prelude.{option_to_list}
-use Rattle.moka_parts.specs.declared.records.Member.{Member}
-use Rattle.moka_parts.proofs.AccessList.{absent_taken_out, counted_taken_out, counted_past_taken_out, counted_pushed, counted_past_pushed}
-use Rattle.moka_parts.proofs.Maps.{same_or_apart}
-use Rattle.moka_parts.specs.Records.{member, counted_of, without_member, to_back}
+use Rattle.moka_records.specs.declared.records.Member.{Member}
+use Rattle.moka_records.proofs.AccessList.{absent_taken_out, counted_taken_out, counted_past_taken_out, counted_pushed, counted_past_pushed}
+use Rattle.moka_records.proofs.Maps.{same_or_apart}
+use Rattle.moka_records.specs.Records.{member, counted_of, without_member, to_back}
 
 module _ (n q : ℕ) where
   -- a number leaves

@@ -6,12 +6,12 @@ use Rattle.std.specs.Map.{lookup, remove_entry}
 use Rattle.std.specs.Option.{option_map, option_and_then, option_map_or}
 use Rattle.std.specs.Ordering.{nat_cmp}
 use Rattle.std.specs.Prelude.{IfSome, IfNone}
-use Rattle.moka_index.proofs.Maps.{option-cases}
-use Rattle.moka_parts.proofs.Options.{mapped_is_some}
-use Rattle.moka_store.proofs.TableMaps.{some_is, read-of, altered-same}
-use Rattle.moka_store.proofs.TableCalls.{get-places}
-use Rattle.moka_store.specs.declared.table.membership.Membership.{Membership}
-use Rattle.moka_store.specs.RecordTable.{Row, row_at, number_at, membership_at, places_of, IsNumbered, ChangesAt}
+use Rattle.moka_links.proofs.FinMaps.{option-cases}
+use Rattle.moka_records.proofs.Options.{mapped_is_some}
+use Rattle.moka_table.proofs.TableMaps.{some_is, read-of, altered-same}
+use Rattle.moka_table.proofs.TableCalls.{get-places}
+use Rattle.moka_table.specs.declared.table.membership.Membership.{Membership}
+use Rattle.moka_table.specs.RecordTable.{Row, row_at, number_at, membership_at, places_of, IsNumbered, ChangesAt}
 use Rattle.moka_wheel.specs.Wheel.{Timer}
 use Rattle.moka_store.proofs.Nodes.{map-all, node-in}
 use Rattle.moka_store.proofs.Slots.{slot-row, number-of, node-of, listed-kept, listed-moved, listed-added, listed-removed, listed-empty}
@@ -24,9 +24,9 @@ use Rattle.moka_store.specs.Store.{IsOrdered, cursor_past, with_timer}
 use Rattle.moka_store.specs.StoreRows.{written_in, written_at, timer_at, member_at, written_of, cursor_of, timers_of}
 use Rattle.moka_store.specs.StoreTies.{KeyIndex, IsListed, IsTied, IsWritten, IsTimed, kept_of}
 use Rattle.moka_store.specs.Timing.{Timing, timer_after}
-use Rattle.moka_parts.specs.declared.policy.Instant.{Instant}
-use Rattle.moka_parts.specs.declared.records.Record.{Record}
-use Rattle.moka_parts.specs.Records.{counted_of, without_number, number_to_back, entered_by}
+use Rattle.moka_records.specs.declared.instant.Instant.{Instant}
+use Rattle.moka_records.specs.declared.records.Record.{Record}
+use Rattle.moka_records.specs.Records.{counted_of, without_number, number_to_back, entered_by}
 
 -- a row with a slot in the write list is a member's
 written-member : {K V : Type 0} (o : Option (Row (Record K V))) → IsSome (option_and_then written_in o) → IsSome (option_and_then (λ (row : Row (Record K V)). row.membership) o)

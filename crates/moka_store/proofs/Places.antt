@@ -3,15 +3,15 @@ use Rattle.std.proofs.Common.{◌≡◌, ◌+◌, ◌-◌, min, ◌<◌, ◌≤�
 use Rattle.std.proofs.lemmas.Bool.{cases_Bool, cond-true, cond-false, leb-true, le-leb}
 use Rattle.std.proofs.lemmas.List.Elements.{Contains-append_right}
 use Rattle.std.specs.FinMap.{get}
-use Rattle.moka_store.specs.RecordTable.{Row, row_at, stored_at, records_of, places_of}
-use Rattle.moka_store.proofs.TableCalls.{record_row, placed_row, get-places, get-records}
-use Rattle.moka_parts.specs.declared.records.Record.{Record}
-use Rattle.moka_parts.specs.declared.records.Member.{Member}
-use Rattle.moka_parts.specs.Records.{counted_of}
-use Rattle.moka_parts.proofs.Maps.{same_by_test}
+use Rattle.moka_table.specs.RecordTable.{Row, row_at, stored_at, records_of, places_of}
+use Rattle.moka_table.proofs.TableCalls.{record_row, placed_row, get-places, get-records}
+use Rattle.moka_records.specs.declared.records.Record.{Record}
+use Rattle.moka_records.specs.declared.records.Member.{Member}
+use Rattle.moka_records.specs.Records.{counted_of}
+use Rattle.moka_records.proofs.Maps.{same_by_test}
 use Rattle.moka_store.specs.StoreRows.{member_at, row_room}
 use Rattle.moka_store.specs.StoreTies.{KeyIndex, IsTied}
-use Rattle.moka_store.proofs.TableMaps.{some_is, read-of}
+use Rattle.moka_table.proofs.TableMaps.{some_is, read-of}
 use Rattle.moka_store.proofs.Nodes.{in-nodes}
 use Rattle.moka_store.proofs.Steps.{node-member}
 

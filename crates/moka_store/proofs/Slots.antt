@@ -5,11 +5,11 @@ use Rattle.std.specs.List.{IsDistinct}
 use Rattle.std.specs.Map.{lookup, remove_entry, keys_of}
 use Rattle.std.specs.Option.{option_and_then, option_map_or}
 use Rattle.moka_structures.proofs.Linked.{linked-same, linked-added, linked-removed}
-use Rattle.moka_store.specs.RecordTable.{Row, row_at, number_at, IsNumbered}
-use Rattle.moka_store.proofs.TableMaps.{read-of}
+use Rattle.moka_table.specs.RecordTable.{Row, row_at, number_at, IsNumbered}
+use Rattle.moka_table.proofs.TableMaps.{read-of}
 use Rattle.moka_store.proofs.Nodes.{in-nodes, length-nodes, length-nodes_below, distinct-none, distinct-push, distinct-remove, lookup-removed}
 use Rattle.moka_store.specs.StoreTies.{IsListed}
-use Rattle.moka_parts.specs.declared.records.Record.{Record}
+use Rattle.moka_records.specs.declared.records.Record.{Record}
 
 -- the row with this slot, to which its node leads
 pub record SlotRow {K V : Type 0} (slot_in : Row (Record K V) → Option ℕ) (rows : List (Option (Row (Record K V)))) (node : ℕ × ℕ) : Type 0 where

@@ -9,19 +9,19 @@ use Rattle.std.specs.Map.{lookup, remove_entry}
 use Rattle.std.specs.Option.{option_map, option_and_then, option_map_or}
 use Rattle.std.specs.Ordering.{nat_cmp}
 use Rattle.std.specs.Prelude.{IfSome, option_to_list}
-use Rattle.moka_store.proofs.TableCalls.{get-records, get-places, record_row, placed_row, shows-inserted, shows-stored, shows-forgotten, with_stored-changes, count-with_stored}
-use Rattle.moka_store.proofs.TableMaps.{read-of, made-of, alters-set, numbered-after}
+use Rattle.moka_table.proofs.TableCalls.{get-records, get-places, record_row, placed_row, shows-inserted, shows-stored, shows-forgotten, with_stored-changes, count-with_stored}
+use Rattle.moka_table.proofs.TableMaps.{read-of, made-of, alters-set, numbered-after}
 use Rattle.moka_store.proofs.Gets.{option-cases, some_is, get-inserted, len-kept}
-use Rattle.moka_store.specs.declared.table.membership.Membership.{Membership}
-use Rattle.moka_store.specs.RecordTable.{Row, Table, row_at, number_at, stored_at, membership_at, with_stored, ChangesAt, records_of, places_of}
+use Rattle.moka_table.specs.declared.table.membership.Membership.{Membership}
+use Rattle.moka_table.specs.RecordTable.{Row, Table, row_at, number_at, stored_at, membership_at, with_stored, ChangesAt, records_of, places_of}
 use Rattle.moka_store.proofs.Keys.{index-same, index-added, index-removed}
 use Rattle.moka_store.proofs.Nodes.{in-nodes, node-in, lookup-remove, distinct-remove}
 use Rattle.moka_store.proofs.Orders.{slot-there, stays-row}
-use Rattle.moka_parts.proofs.Options.{mapped_is_some}
+use Rattle.moka_records.proofs.Options.{mapped_is_some}
 use Rattle.moka_store.proofs.Slots.{slot-row, off-nodes, listed-kept, listed-added, listed-removed, listed-moved, listed-empty}
 use Rattle.moka_store.proofs.Timed.{untimed}
 use Rattle.moka_store.proofs.Ties.{read-other, read-same, named-changed, access-kept, access-off, access-of, counted-row, without-row, unlisted-from}
-use Rattle.moka_parts.proofs.Lookup.{record_of_key_found, absent_key}
+use Rattle.moka_records.proofs.Lookup.{record_of_key_found, absent_key}
 use Rattle.moka_wheel.specs.Wheel.{Timer}
 use Rattle.moka_store.specs.Listing.{Listing}
 use Rattle.moka_store.specs.Timing.{Timing}
@@ -30,10 +30,10 @@ use Rattle.moka_store.specs.Store.{IsOneEach, IsHandle, ChangesRecord}
 use Rattle.moka_store.specs.StoreRows.{key_in, key_at, passes_at, access_in, access_at, member_in, member_at}
 use Rattle.moka_store.specs.StoreTies.{AreNarrow, KeyIndex, IsListed, IsIndex, IsTied, IsWritten, IsTimed, IsStore, kept_of}
 use Rattle.moka_store.specs.Weights.{IsWeighed}
-use Rattle.moka_parts.specs.declared.records.Member.{Member}
-use Rattle.moka_parts.specs.declared.records.Record.{Record}
-use Rattle.moka_parts.specs.KeyTests.{record_by}
-use Rattle.moka_parts.specs.Records.{member, counted_of, record_of_key, without_member, to_back}
+use Rattle.moka_records.specs.declared.records.Member.{Member}
+use Rattle.moka_records.specs.declared.records.Record.{Record}
+use Rattle.moka_records.specs.KeyTests.{record_by}
+use Rattle.moka_records.specs.Records.{member, counted_of, record_of_key, without_member, to_back}
 
 -- the parts belong together, and the list stands for these members
 pub record Sees {K V : Type 0} (eq : K → K → Bool) (rows : List (Option (Row (Record K V)))) (index : KeyIndex K) (nodes : List (ℕ × ℕ)) (members : List Member) : Type 0 where

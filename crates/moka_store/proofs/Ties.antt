@@ -4,19 +4,19 @@ use Rattle.std.proofs.lemmas.Bool.{cases_eq, ne_eqb}
 use Rattle.std.specs.FinMap.{get}
 use Rattle.std.specs.Map.{lookup, remove_entry}
 use Rattle.std.specs.Option.{option_map, option_and_then, option_map_or}
-use Rattle.moka_parts.proofs.Options.{none_by_test, mapped_is_some}
-use Rattle.moka_store.proofs.TableCalls.{get-places}
-use Rattle.moka_index.proofs.Maps.{option-cases}
-use Rattle.moka_store.specs.declared.table.membership.Membership.{Membership}
-use Rattle.moka_store.specs.RecordTable.{Row, row_at, number_at, ChangesAt, places_of}
+use Rattle.moka_records.proofs.Options.{none_by_test, mapped_is_some}
+use Rattle.moka_table.proofs.TableCalls.{get-places}
+use Rattle.moka_links.proofs.FinMaps.{option-cases}
+use Rattle.moka_table.specs.declared.table.membership.Membership.{Membership}
+use Rattle.moka_table.specs.RecordTable.{Row, row_at, number_at, ChangesAt, places_of}
 use Rattle.moka_structures.specs.Order.{next_after}
 use Rattle.moka_store.proofs.Nodes.{map-agree, counted-none, counted-found, behind-found, rest-found}
 use Rattle.moka_store.proofs.Slots.{slot-row, node-of, no-node, one-node}
 use Rattle.moka_store.specs.Store.{member_after}
 use Rattle.moka_store.specs.StoreRows.{access_in, member_in, member_at}
 use Rattle.moka_store.specs.StoreTies.{KeyIndex, IsNamed, IsTied}
-use Rattle.moka_parts.specs.declared.records.Record.{Record}
-use Rattle.moka_parts.specs.Records.{counted_of, without_member}
+use Rattle.moka_records.specs.declared.records.Record.{Record}
+use Rattle.moka_records.specs.Records.{counted_of, without_member}
 
 -- ---- what is read of a row, before and after a change
 

@@ -1,13 +1,12 @@
 -- How the sum of the counted weights follows a change of the access list.
 use Rattle.std.proofs.Common.{◌≡◌, ℕ, ◌==◌, ◌+◌, ◌-◌, ◌*◌, ◌^◌, ◌<◌, ◌≤◌, true, false, cond, not, List, [], ◌∷◌, ◌++◌, length, Some, None, refl, sym, ap, subst, arith, option_map, option_to_list, inl, inr}
 use Rattle.std.specs.List.{IsDistinct}
-use Rattle.moka_parts.specs.declared.records.Member.{Member}
-use Rattle.moka_parts.specs.Records.{member, counted_of, numbers_of, without_member, to_back, total_weight}
-use Rattle.moka_parts.proofs.AccessList.{absent_taken_out, counted_taken_out, distinct_taken_out, distinct_pushed}
+use Rattle.moka_records.specs.declared.records.Member.{Member}
+use Rattle.moka_records.specs.Records.{member, counted_of, numbers_of, without_member, to_back, total_weight}
+use Rattle.moka_records.proofs.AccessList.{absent_taken_out, counted_taken_out, distinct_taken_out, distinct_pushed, front_once, rest_once}
 use Rattle.moka_store.specs.Weights.{AreLight, IsWeighed}
 use Rattle.std.proofs.lemmas.List.Sums.{sum_by-append, sum_by-cons}
-use Rattle.moka_parts.proofs.Maps.{same_by_test}
-use Rattle.moka_parts.proofs.Counting.{front_once, rest_once}
+use Rattle.moka_records.proofs.Maps.{same_by_test}
 use Rattle.moka_store.proofs.Gets.{option-cases}
 use Rattle.moka_store.proofs.Members.{absent_to_back}
 

@@ -5,8 +5,8 @@ use Rattle.std.proofs.lemmas.List.{map-append}
 use Rattle.std.specs.Map.{lookup, remove_entry}
 use Rattle.std.specs.Option.{option_map, option_and_then}
 use Rattle.std.specs.Prelude.{IfSome, IfNone, slice_get}
-use Rattle.moka_index.proofs.Maps.{option-cases}
-use Rattle.moka_store.specs.RecordTable.{Row, row_at, number_at, IsNumbered}
+use Rattle.moka_links.proofs.FinMaps.{option-cases}
+use Rattle.moka_table.specs.RecordTable.{Row, row_at, number_at, IsNumbered}
 use Rattle.moka_structures.specs.Order.{next_after}
 use Rattle.moka_store.proofs.Nodes.{in-nodes, node-in, map-agree, any-none, any-found, behind-none, rest-none, rest-found, behind-found, get-map}
 use Rattle.moka_store.proofs.Slots.{number-of, node-of, no-node, one-node}
@@ -14,8 +14,8 @@ use Rattle.moka_store.specs.Listing.{IsCursor, node_past}
 use Rattle.moka_store.specs.Store.{number_after, cursor_past}
 use Rattle.moka_store.specs.StoreRows.{written_in, written_at, written_of, cursor_of}
 use Rattle.moka_store.specs.StoreTies.{IsListed}
-use Rattle.moka_parts.specs.declared.records.Record.{Record}
-use Rattle.moka_parts.specs.Records.{is_listed, without_number, number_to_back, entered_by}
+use Rattle.moka_records.specs.declared.records.Record.{Record}
+use Rattle.moka_records.specs.Records.{is_listed, without_number, number_to_back, entered_by}
 
 -- a row with a slot keeps its number
 abbrev pub KeepsNumbers : {K V : Type 0} → List (Option (Row (Record K V))) → List (Option (Row (Record K V))) → Type 0

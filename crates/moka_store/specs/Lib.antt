@@ -1,12 +1,7 @@
-pub mod ColdParts
 pub mod Hashing
 pub mod Listing
-pub mod RecordTable
-pub mod Slots
-pub mod States
 pub mod Store
 pub mod StoreRows
 pub mod StoreTies
 pub mod Timing
-pub mod Updates
 pub mod Weights

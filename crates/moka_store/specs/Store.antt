@@ -6,12 +6,12 @@ use Rattle.std.specs.List.{AllZip}
 use Rattle.std.specs.FinMap.{FinMap}
 use Rattle.std.specs.Ordering.{nat_cmp}
 use Rattle.moka_store.specs.declared.store.Handle.{Handle}
-use Rattle.moka_store.specs.RecordTable.{altered}
-use Rattle.moka_parts.specs.declared.policy.Instant.{Instant}
-use Rattle.moka_parts.specs.declared.records.Record.{Record}
-use Rattle.moka_parts.specs.declared.records.Member.{Member}
-use Rattle.moka_parts.specs.RecordParts.{record_code}
-use Rattle.moka_parts.specs.Records.{Records, counted_of, is_listed}
+use Rattle.moka_table.specs.RecordTable.{altered}
+use Rattle.moka_records.specs.declared.instant.Instant.{Instant}
+use Rattle.moka_records.specs.declared.records.Record.{Record}
+use Rattle.moka_records.specs.declared.records.Member.{Member}
+use Rattle.moka_records.specs.RecordParts.{record_code}
+use Rattle.moka_records.specs.Records.{Records, counted_of, is_listed}
 
 -- the records by number, both orders, the timers, the place of each number that has a row, and how many new records
 -- need no memory

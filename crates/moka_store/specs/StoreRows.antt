@@ -3,10 +3,10 @@ use Rattle.std.specs.Prelude.{ℕ, ◌+◌, ◌^◌, Bool, false, cond, nat_le, 
 use Rattle.std.specs.FinMap.{FinMap, get}
 use Rattle.std.specs.Option.{option_map, option_and_then, option_map_or}
 use Rattle.std.specs.Ordering.{nat_cmp}
-use Rattle.moka_store.specs.RecordTable.{Row, row_at, number_at, stored_at, map_of}
+use Rattle.moka_table.specs.RecordTable.{Row, row_at, number_at, stored_at, map_of}
 use Rattle.moka_wheel.specs.Wheel.{Timer}
-use Rattle.moka_parts.specs.declared.records.Record.{Record}
-use Rattle.moka_parts.specs.declared.records.Member.{Member}
+use Rattle.moka_records.specs.declared.records.Record.{Record}
+use Rattle.moka_records.specs.declared.records.Member.{Member}
 
 module _ {K V : Type 0} where
   -- the key of a row's record

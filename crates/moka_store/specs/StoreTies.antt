@@ -5,7 +5,7 @@ use Rattle.std.specs.List.{IsDistinct}
 use Rattle.std.specs.Map.{lookup, keys_of}
 use Rattle.std.specs.Option.{option_map, option_and_then}
 use Rattle.std.specs.Ordering.{nat_cmp}
-use Rattle.moka_store.specs.RecordTable.{Row, row_at, membership_at, IsNumbered, records_of, places_of}
+use Rattle.moka_table.specs.RecordTable.{Row, row_at, membership_at, IsNumbered, records_of, places_of}
 use Rattle.moka_structures.specs.Linked.{IsLinked}
 use Rattle.moka_structures.specs.Order.{Order}
 use Rattle.moka_wheel.specs.Wheel.{Timer}
@@ -14,7 +14,7 @@ use Rattle.moka_store.specs.Timing.{Timing}
 use Rattle.moka_store.specs.Store.{Kept}
 use Rattle.moka_store.specs.StoreRows.{key_at, access_in, written_in, written_at, timer_at, member_at, written_of, cursor_of, timers_of, row_room}
 use Rattle.moka_store.specs.Weights.{IsWeighed}
-use Rattle.moka_parts.specs.declared.records.Record.{Record}
+use Rattle.moka_records.specs.declared.records.Record.{Record}
 
 -- the hash under which a key is indexed, and the hash that the index has for each place
 pub record KeyIndex (K : Type 0) : Type 0 where

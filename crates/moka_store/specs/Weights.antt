@@ -1,8 +1,8 @@
 -- The sum of the counted weights, kept beside the access list.
 use Rattle.std.specs.Prelude.{◌≡◌, ℕ, ◌==◌, ◌^◌, ◌<◌, List, [], ◌∷◌, ⊤}
 use Rattle.std.specs.List.{IsDistinct}
-use Rattle.moka_parts.specs.declared.records.Member.{Member}
-use Rattle.moka_parts.specs.Records.{numbers_of, total_weight}
+use Rattle.moka_records.specs.declared.records.Member.{Member}
+use Rattle.moka_records.specs.Records.{numbers_of, total_weight}
 
 -- each counted weight is a number of 32 bits
 abbrev pub AreLight : List Member → Type 0

@@ -2,7 +2,6 @@
 #![tactic(auto)]
 
 pub mod store;
-pub mod table;
 mod timers;
 mod write_list;
 

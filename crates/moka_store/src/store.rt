@@ -4,27 +4,27 @@
 ghost use Rattle.std.specs.Prelude.{◌==◌, if◌then◌else◌, ◌≡◌, ◌≢◌, ◌+◌, ◌^◌, ◌<◌, ◌≤◌, ℕ, [], ◌∷◌, ◌++◌, length, OnOk, IfOk, IfSome, IfNone, true, false, IsOk, IsSome, IsNone, None, Some, slice_get, nat_lt, option_map, IsTrue, ◌↔◌};
 ghost use Rattle.std.specs.FinMap as finite;
 ghost use Rattle.std.specs.List.{IsDistinct};
-ghost use Rattle.moka_parts.specs.Hashing.{key_hash};
+ghost use Rattle.moka_records.specs.Hashing.{key_hash};
 ghost use Rattle.moka_store.specs.Store.{member_after, number_after, cursor_past, with_timer, AreKeysOf, ChangesRecord, ExpiresAsBefore, IsOff, IsPlaced, IsHandle, IsOneEach, IsOrdered};
 ghost use Rattle.moka_store.specs.declared.store.Handle.{Handle};
-ghost use Rattle.moka_parts.specs.declared.records.Record.{Record};
+ghost use Rattle.moka_records.specs.declared.records.Record.{Record};
 ghost use Rattle.moka_store.specs.Hashing.{IsIndexHash};
-ghost use Rattle.moka_store.specs.Updates.{updated};
-ghost use Rattle.moka_parts.specs.Order.{IsListOf};
-ghost use Rattle.moka_parts.specs.Time.{moment_of};
-ghost use Rattle.moka_parts.specs.Records.{member, counted_of, record_of_key, with_record, without_member, is_member, is_settled, numbers_of, to_back, total_weight, is_listed, without_number, number_to_back, entered_by};
+ghost use Rattle.moka_table.specs.Updates.{updated};
+ghost use Rattle.moka_records.specs.Records.{IsListOf, member, counted_of, record_of_key, with_record, without_member, is_member, is_settled, numbers_of, to_back, total_weight, is_listed, without_number, number_to_back, entered_by};
+ghost use Rattle.moka_records.specs.Time.{moment_of};
 
-use crate::table::{Membership, RecordTable};
 use crate::timers::Timers;
 use crate::write_list::WriteList;
 pub use changes::MOST_PLACES;
 pub use hashing::IndexHash;
 use moka_index::PlaceIndex;
-use moka_parts::key_test::SameKey;
-use moka_parts::policy::Instant;
-use moka_parts::record_ref::RecordRef;
-use moka_parts::records::Record;
+use moka_records::instant::Instant;
+use moka_records::key_test::SameKey;
+use moka_records::record_ref::RecordRef;
+use moka_records::records::Record;
 use moka_structures::OrderList;
+pub use moka_table::Update;
+use moka_table::{Membership, RecordTable};
 use std::alloc::{AllocError, Global};
 use std::hash::{BuildHasher, Hash};
 use std::marker::Model;
@@ -42,16 +42,6 @@ const FAR: usize = 1 << 18;
 pub struct Handle {
     pub number: u64,
     pub place: usize,
-}
-
-/// What an insert writes into the record of its key.
-#[derive(Drop)]
-pub struct Update<V> {
-    pub value: V,
-    /// When it is inserted, which counts as a read too.
-    pub now: Instant,
-    pub expires: Option<Instant>,
-    pub weight: u32,
 }
 
 /// The records of a cache, found by key or by handle, with their orders of access and of writing, their timers and the
@@ -88,7 +78,7 @@ impl<K: Eq + Hash + Drop, V: Drop, S: BuildHasher + Drop> Drop for Store<K, V, S
 
 impl<K: Eq + Hash, V, S: BuildHasher> Model for Store<K, V, S> {
     ghost use Rattle.std.specs.FinMap as finite;
-    ghost use Rattle.moka_parts.specs.Hashing.{key_hash};
+    ghost use Rattle.moka_records.specs.Hashing.{key_hash};
     ghost use Rattle.moka_store.specs.Hashing.{index_hash};
     ghost use Rattle.moka_store.specs.Store.{Kept, kept_code};
 

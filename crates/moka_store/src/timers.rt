@@ -1,12 +1,12 @@
 //! The timers of rows, if an expiry is set.
 ghost use Rattle.std.specs.Prelude.{◌≡◌, ◌+◌, ◌<◌, ◌≤◌, ◌&&◌, ◌⊎◌, ℕ, false, OnOk, IfOk, IsOk, IfSome, IfNone, is_some, None, Some, option_map};
 ghost use Rattle.std.specs.FinMap.{empty, get, len};
-ghost use Rattle.moka_parts.specs.Time.{moment_of};
+ghost use Rattle.moka_records.specs.Time.{moment_of};
 ghost use Rattle.moka_store.specs.Timing.{timer_after};
-ghost use Rattle.moka_store.specs.Slots.{IsSlot};
+ghost use Rattle.moka_table.specs.Slots.{IsSlot};
 ghost use Rattle.moka_wheel.specs.Wheel.{Timer};
 
-use moka_parts::policy::Instant;
+use moka_records::instant::Instant;
 use moka_wheel::{Due, TimerWheel};
 use std::alloc::{AllocError, Global};
 use std::marker::Model;

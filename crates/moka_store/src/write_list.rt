@@ -3,7 +3,7 @@ ghost use Rattle.std.specs.Prelude.{◌≡◌, ◌<◌, ◌≤◌, ◌⊎◌, �
 ghost use Rattle.std.specs.Map.{lookup, remove_entry};
 ghost use Rattle.moka_store.specs.Listing.{node_past, IsCursor};
 ghost use Rattle.moka_structures.specs.Order.{next_after};
-ghost use Rattle.moka_store.specs.Slots.{IsSlot};
+ghost use Rattle.moka_table.specs.Slots.{IsSlot};
 
 use moka_structures::OrderList;
 use std::alloc::{AllocError, Global};

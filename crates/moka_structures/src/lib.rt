@@ -1,10 +1,6 @@
-//! The structures that the cache engine keeps its records in.
+//! The order in which the cache engine keeps its records.
 #![tactic(auto)]
 
-mod older;
 pub mod order_list;
-pub mod outstanding;
-mod ticket_table;
 
 pub use order_list::OrderList;
-pub use outstanding::Outstanding;

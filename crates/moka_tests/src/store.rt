@@ -3,7 +3,7 @@ ghost use Rattle.std.specs.Prelude.{◌≡◌, ◌≤◌, OnOk};
 
 use moka_parts::policy::Instant;
 use moka_parts::records::Record;
-use moka_store::table::RecordTable;
+use moka_table::table::RecordTable;
 use std::alloc::{AllocError, Global};
 use std::test::Fail;
 

@@ -1,3 +1,3 @@
-//! Tests of `moka_structures`.
+//! Tests of `moka_structures` and `moka_tickets`.
 mod order_list;
 mod outstanding;

@@ -1,5 +1,5 @@
 -- The moment of a call of a cache that owns its clock: the clock is read first.
-use Rattle.moka_parts.specs.declared.policy.Instant.{Instant}
+use Rattle.moka_records.specs.declared.instant.Instant.{Instant}
 use Rattle.moka_calls.specs.Synchronous.{Synchronous}
 use Rattle.moka_timed.specs.declared.cache.TimedCache.{TimedCache}
 

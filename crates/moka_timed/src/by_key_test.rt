@@ -1,12 +1,13 @@
 //! Look-ups and removals by a test of the key in place of a key.
 ghost use Rattle.std.specs.Prelude.{◌≡◌, true, Option, Some, None, Result, IfOk, IfSome, OnErr, option_map};
 ghost use Rattle.moka_parts.specs.Calls.{ContainsStep};
-ghost use Rattle.moka_parts.specs.KeyTests.{ContainsByStep, record_by};
-ghost use Rattle.moka_parts.specs.Records.{record_of_key};
+ghost use Rattle.moka_parts.specs.KeyTests.{ContainsByStep};
+ghost use Rattle.moka_records.specs.KeyTests.{record_by};
+ghost use Rattle.moka_records.specs.Records.{record_of_key};
 ghost use Rattle.moka_parts.specs.declared.error.OutOfMemory.{OutOfMemory};
-ghost use Rattle.moka_parts.specs.declared.records.Record.{Record};
+ghost use Rattle.moka_records.specs.declared.records.Record.{Record};
 ghost use Rattle.moka_parts.specs.Counters.{after_look_up};
-ghost use Rattle.moka_parts.specs.Hashing.{key_hash};
+ghost use Rattle.moka_records.specs.Hashing.{key_hash};
 ghost use Rattle.moka_cache.specs.Keyed.{GetsBy, RemovesBy};
 ghost use Rattle.moka_timed.specs.Moments.{AtItsMoment, AtItsOnlyMoment};
 ghost use Rattle.moka_calls.specs.Synchronous.{invalidated, meaning_of, removed, taken_out};

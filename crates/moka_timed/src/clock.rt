@@ -1,7 +1,7 @@
 //! Clocks for a cache that owns one.
 ghost use Rattle.std.specs.Prelude.{◌≡◌};
 ghost use Rattle.std.specs.Duration.{as_nanos};
-ghost use Rattle.moka_parts.specs.Time.{plus};
+ghost use Rattle.moka_records.specs.Time.{plus};
 
 use moka_parts::housekeeper::Clock;
 use moka_parts::policy::Instant;
@@ -49,7 +49,7 @@ impl<R> SystemClock<R> {
 
 impl<R: Monotonic> Clock for SystemClock<R> {
     ghost use Rattle.std.specs.Prelude.{◌≡◌, ℕ, Option, max, min, unwrap_or};
-    ghost use Rattle.moka_parts.specs.Time.{greatest};
+    ghost use Rattle.moka_records.specs.Time.{greatest};
 
     // what the source tells, but no moment before the last
     ghost reads = { λ before moment after. (since : Option ℕ) × R.tells before.source since

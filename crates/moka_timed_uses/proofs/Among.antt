@@ -6,7 +6,7 @@ use Rattle.std.specs.List.{AllByRecursion}
 use Rattle.moka_engine.specs.parts.Record.{Record}
 use Rattle.moka_engine.specs.Records.{Records}
 use Rattle.moka_engine.specs.State.{State, Settings}
-use Rattle.moka_engine.specs.declared.base_cache.restores.Restored.{Restored}
+use Rattle.moka_engine.specs.parts.Restored.{Restored}
 use Rattle.moka_engine.proofs.Maps.{nothing_at}
 use Rattle.moka_cache.specs.Saved.{AddsOnly, IsOfItem, IsRestored, WeighAtMost, has_expired}
 use Rattle.moka_cache.specs.Unsent.{HidesNoMore}

@@ -6,7 +6,7 @@ use Rattle.moka_engine.specs.parts.Reply.{Reply}
 use Rattle.moka_engine.specs.parts.Ticket.{Ticket}
 use Rattle.moka_engine.specs.Runs.{Engine}
 use Rattle.moka_engine.specs.State.{Meaning}
-use Rattle.moka_engine.specs.declared.base_cache.restores.Restored.{Restored}
+use Rattle.moka_engine.specs.parts.Restored.{Restored}
 use Rattle.moka_cache.specs.Limits.{SetNoCapacity}
 use Rattle.moka_cache.specs.Saved.{PutsAllBack, PutsBack}
 use Rattle.moka_cache.specs.Synchronous.{Posts}

@@ -2,13 +2,17 @@
 pub mod moka_links;
 pub mod moka_index;
 pub mod moka_structures;
+pub mod moka_tickets;
 pub mod moka_wheel;
+pub mod moka_records;
 pub mod moka_parts;
 pub mod moka_laws;
 pub mod moka_sketch;
 pub mod moka_calls;
 pub mod moka_router;
+pub mod moka_table;
 pub mod moka_store;
+pub mod moka_lookups;
 pub mod moka_maintenance;
 pub mod moka_inner;
 pub mod moka_engine;

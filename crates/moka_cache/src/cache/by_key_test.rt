@@ -1,10 +1,11 @@
 //! Look-ups and removals by a test of the key in place of a key.
 ghost use Rattle.std.specs.Prelude.{◌≡◌, [], true, Option, Some, None, Result, option_map};
 ghost use Rattle.moka_parts.specs.Calls.{ContainsStep};
-ghost use Rattle.moka_parts.specs.KeyTests.{ContainsByStep, record_by};
-ghost use Rattle.moka_parts.specs.Records.{record_of_key};
+ghost use Rattle.moka_parts.specs.KeyTests.{ContainsByStep};
+ghost use Rattle.moka_records.specs.KeyTests.{record_by};
+ghost use Rattle.moka_records.specs.Records.{record_of_key};
 ghost use Rattle.moka_parts.specs.declared.error.OutOfMemory.{OutOfMemory};
-ghost use Rattle.moka_parts.specs.Hashing.{key_hash};
+ghost use Rattle.moka_records.specs.Hashing.{key_hash};
 ghost use Rattle.moka_cache.specs.Keyed.{GetsBy, RemovesBy};
 ghost use Rattle.moka_calls.specs.Synchronous.{Made, Makes, RemovesEntry, hears_clones, invalidated, meaning_of, removed, taken_out};
 

@@ -1,19 +1,20 @@
 //! Look-ups and removals by a test of the key in place of a key.
 ghost use Rattle.std.specs.Prelude.{◌≡◌, Some, length, true, option_map};
-ghost use Rattle.moka_parts.specs.Hashing.{key_hash};
+ghost use Rattle.moka_records.specs.Hashing.{key_hash};
 ghost use Rattle.moka_parts.specs.Calls.{RecordsRead, no_events};
 ghost use Rattle.moka_parts.specs.Copies.{HandsOut, IsEntryCopy};
 ghost use Rattle.moka_parts.specs.Housekeeping.{is_due};
-ghost use Rattle.moka_parts.specs.KeyTests.{ContainsByStep, GetByStep, RemoveByStep, record_by};
+ghost use Rattle.moka_parts.specs.KeyTests.{ContainsByStep, GetByStep, RemoveByStep};
+ghost use Rattle.moka_records.specs.KeyTests.{record_by};
 ghost use Rattle.moka_parts.specs.Runs.{Befalls};
 ghost use Rattle.moka_parts.specs.Surroundings.{Leads};
-ghost use Rattle.moka_parts.specs.declared.records.ReadOperation.TheVariants as operation;
+ghost use Rattle.moka_records.specs.declared.records.ReadOperation.TheVariants as operation;
 ghost use Rattle.moka_store.specs.Hashing.{IsIndexHash};
 ghost use Rattle.moka_engine.specs.Makes.{Takes};
 
 use super::BaseCache;
-use super::gets::Hit;
 use moka_inner::Hashes;
+use moka_lookups::gets::Hit;
 use moka_parts::calls::{Entry, KvEntry, Ticket};
 use moka_parts::closures::{NoTest, PredicateFn, Weigher};
 use moka_parts::error::OutOfMemory;

@@ -4,17 +4,18 @@ ghost use Rattle.std.specs.Prelude.{◌≡◌, Bool, Some, true};
 ghost use Rattle.moka_parts.specs.Calls.{GetStep, PeekStep, ScanStep, no_events};
 ghost use Rattle.moka_parts.specs.Closures.{CanAskIfGiven, test_given, test_left};
 ghost use Rattle.moka_parts.specs.Copies.{HandsOut, IsEntryCopy};
-ghost use Rattle.moka_parts.specs.KeyTests.{record_by};
-ghost use Rattle.moka_parts.specs.Records.{record_of_key};
+ghost use Rattle.moka_records.specs.KeyTests.{record_by};
+ghost use Rattle.moka_records.specs.Records.{record_of_key};
 ghost use Rattle.moka_parts.specs.Runs.{Befalls};
 ghost use Rattle.moka_parts.specs.Surroundings.{IsAskedOnce, Leads};
 ghost use Rattle.moka_store.specs.Hashing.{IsIndexHash};
-ghost use Rattle.moka_engine.specs.Looks.{LooksUp, value_of};
+ghost use Rattle.moka_engine.specs.Looks.{LooksUp};
+ghost use Rattle.moka_lookups.specs.Looks.{value_of};
 ghost use Rattle.moka_engine.specs.Makes.{Takes};
 
-use super::BaseCache;
-use super::gets::{self, Look, Moments};
+use super::{BaseCache, hits};
 use moka_inner::Hashes;
+use moka_lookups::gets::{self, Look, Moments};
 use moka_parts::calls::Entry;
 use moka_parts::closures::{NoTest, PredicateFn, ValueTest, Weigher};
 use moka_parts::error::OutOfMemory;
@@ -105,12 +106,12 @@ impl<
                 valid_after: &self.valid_after,
                 now,
             };
-            let (inner, predicates) = (&self.inner, &self.invalidator);
-            gets::look_up(inner, &moments, predicates, sought, ignore_if, need_key)
+            let (store, predicates) = (self.inner.store(), &self.invalidator);
+            gets::look_up(store, &moments, predicates, sought, ignore_if, need_key)
         };
         match looked {
             Look::Found(handle, (entry, hash, hit)) => {
-                if gets::note_hit(&mut self.inner, &self.housekeeper, handle, hash, hit) {
+                if hits::note_hit(&mut self.inner, &self.housekeeper, handle, hash, hit) {
                     self.record_hit_by(sought, handle.number, hash, hit, clock);
                     return Ok(Some(entry));
                 }
@@ -177,7 +178,13 @@ impl<
                 valid_after: &self.valid_after,
                 now,
             };
-            gets::look_at(&self.inner, &moments, &self.invalidator, sought, test)
+            gets::look_at(
+                self.inner.store(),
+                &moments,
+                &self.invalidator,
+                sought,
+                test,
+            )
         };
         match looked {
             Look::Found(handle, (value, hit)) => {
@@ -202,7 +209,7 @@ impl<
     {
         let moments = self.moments(now);
         let sought = (&SameKey(key), self.inner.index_hash(key));
-        let shown = gets::find_shown(&self.inner, &moments, &self.invalidator, sought);
+        let shown = gets::find_shown(self.inner.store(), &moments, &self.invalidator, sought);
         let Some((_, found)) = shown else {
             return Ok(None);
         };

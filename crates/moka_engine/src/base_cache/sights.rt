@@ -1,36 +1,17 @@
-//! What a look-up meets, and why. It serves those who ask why a key is not found, and changes nothing.
+//! What a look-up meets, and why, for those who ask why a key is not found; and all entries that are visible. Nothing
+//! here changes anything.
 ghost use Rattle.std.specs.Prelude.{◌≡◌, option_map};
-ghost use Rattle.moka_parts.specs.Records.{is_applied, record_of_key};
-ghost use Rattle.moka_engine.specs.BaseCache.{expiring_by};
-ghost use Rattle.moka_engine.specs.Sights.{lapse_of, IsSight};
+ghost use Rattle.moka_records.specs.Records.{is_applied, record_of_key};
+ghost use Rattle.moka_lookups.specs.Sights.{IsSight};
+ghost use Rattle.moka_lookups.specs.Snapshots.{scene_of};
 
 use super::BaseCache;
+use moka_lookups::sights::{Sight, lapse_of};
+use moka_lookups::snapshot::Snapshot;
 use moka_parts::closures::{PredicateFn, Weigher};
-use moka_parts::expiry::{is_expired_by_per_entry_ttl, is_invalid_entry};
-use moka_parts::invalidator::PredicateId;
 use moka_parts::notification::Listener;
-use moka_parts::policy::{ExpirationPolicy, Expiry, Instant};
-use moka_parts::record_ref::RecordRef;
+use moka_parts::policy::{Expiry, Instant};
 use std::hash::{BuildHasher, Hash};
-
-/// What a look-up of a key meets at a moment. If several reasons hide a record, the first in this order is named.
-#[derive(Clone, Copy)]
-pub enum Sight {
-    /// The key has no record.
-    Absent,
-    /// The record has expired by its own expiry.
-    Expired,
-    /// Its time to live has passed.
-    PastTimeToLive,
-    /// Its time to idle has passed.
-    PastTimeToIdle,
-    /// It was written or read before the moment of the last invalidation of all.
-    Invalidated,
-    /// The first registered predicate that covers it, by its identifier.
-    Covered(PredicateId),
-    /// The record is visible.
-    Visible,
-}
 
 impl<
     K: Eq + Hash,
@@ -76,28 +57,12 @@ impl<
         let (_, found) = self.inner.find(key, own)?;
         Some(found.weight())
     }
-}
 
-// The first test by moments that hides a record, if one does.
-fn lapse_of<K, V, X>(
-    found: &RecordRef<'_, K, V>,
-    policy: &ExpirationPolicy<X>,
-    valid_after: Option<Instant>,
-    now: Instant,
-) -> Option<Sight>
-    ensures { result ≡ lapse_of (expiring_by policy.now) valid_after found.now now.0 }
-{
-    if is_expired_by_per_entry_ttl(found.expires(), now) {
-        Some(Sight::Expired)
-    } else if policy.is_past_time_to_live(found.written(), now) {
-        Some(Sight::PastTimeToLive)
-    } else if policy.is_past_time_to_idle(found.read(), now) {
-        Some(Sight::PastTimeToIdle)
-    } else if is_invalid_entry(valid_after, found.written())
-        || is_invalid_entry(valid_after, found.read())
+    /// The entries that are visible at the moment `now`, least recently used first. An entry whose write was not
+    /// applied yet by a run of maintenance stands at the place that it had before, and is left out if it had none.
+    pub fn snapshot(&self, now: Instant) -> Snapshot<'_, K, V, S, X, P>
+        ensures { result ≡ scene_of self.now.state now.0 }
     {
-        Some(Sight::Invalidated)
-    } else {
-        None
+        Snapshot::new(self.inner.store(), self.moments(now), &self.invalidator)
     }
 }

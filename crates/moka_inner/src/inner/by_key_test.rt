@@ -1,10 +1,10 @@
 //! Records by tests of their keys.
 ghost use Rattle.std.specs.Prelude.{◌≡◌, ◌++◌, ◌∷◌, [], IfSome, Some, true, if◌then◌else◌, length, nat_lt, option_map};
 ghost use Rattle.std.specs.FinMap as finite;
-ghost use Rattle.moka_parts.specs.Hashing.{key_hash};
+ghost use Rattle.moka_records.specs.Hashing.{key_hash};
 ghost use Rattle.moka_parts.specs.Calls.{queue_length};
-ghost use Rattle.moka_parts.specs.KeyTests.{record_by};
-ghost use Rattle.moka_parts.specs.declared.records.ReadOperation.TheVariants.{Hit};
+ghost use Rattle.moka_records.specs.KeyTests.{record_by};
+ghost use Rattle.moka_records.specs.declared.records.ReadOperation.TheVariants.{Hit};
 ghost use Rattle.moka_store.specs.Hashing.{IsIndexHash};
 ghost use Rattle.moka_store.specs.Store.{IsHandle};
 ghost use Rattle.moka_inner.specs.ReadNumber.{IsReadNumber};

@@ -1,7 +1,7 @@
 //! The settings of expiry. moka: `policy`.
 ghost use Rattle.std.specs.Prelude.{◌≡◌, ◌||◌, Some, None, is_some, option_map, option_copied};
 ghost use Rattle.std.specs.Duration.{as_nanos};
-ghost use Rattle.moka_parts.specs.Time.{deadline, has_passed};
+ghost use Rattle.moka_records.specs.Time.{deadline, has_passed};
 
 use super::Instant;
 use super::span::Span;

@@ -1,7 +1,7 @@
 //! How long an entry lasts, as it is added to moments.
 ghost use Rattle.std.specs.Prelude.{◌≡◌, Some};
 ghost use Rattle.std.specs.Duration.{as_nanos};
-ghost use Rattle.moka_parts.specs.Time.{deadline, has_passed};
+ghost use Rattle.moka_records.specs.Time.{deadline, has_passed};
 
 use super::Instant;
 use std::marker::Model;
@@ -17,7 +17,7 @@ pub(crate) struct Span {
 impl Model for Span {
     ghost use Rattle.std.specs.Prelude.{◌≡◌, ℕ, min};
     ghost use Rattle.std.specs.Duration.{as_nanos};
-    ghost use Rattle.moka_parts.specs.Time.{greatest};
+    ghost use Rattle.moka_records.specs.Time.{greatest};
 
     ghost Value = { ℕ };
 

@@ -1,16 +1,16 @@
 //! Records by tests of their keys, and hashes of what is not a key.
 ghost use Rattle.std.specs.Prelude.{◌≡◌, IfSome, Some, true, option_map};
 ghost use Rattle.std.specs.FinMap as finite;
-ghost use Rattle.moka_parts.specs.Hashing.{key_hash};
-ghost use Rattle.moka_parts.specs.KeyTests.{record_by};
+ghost use Rattle.moka_records.specs.Hashing.{key_hash};
+ghost use Rattle.moka_records.specs.KeyTests.{record_by};
 ghost use Rattle.moka_store.specs.Hashing.{IsIndexHash};
 ghost use Rattle.moka_store.specs.Store.{IsHandle, IsOneEach};
 ghost use Rattle.moka_store.specs.StoreRows.{passes_at};
 
 use super::{Handle, IndexHash, Store, changes};
-use crate::table::RecordTable;
-use moka_parts::key_test::KeyTest;
-use moka_parts::record_ref::RecordRef;
+use moka_records::key_test::KeyTest;
+use moka_records::record_ref::RecordRef;
+use moka_table::RecordTable;
 use std::hash::{BuildHasher, Hash};
 
 // Whether the key of the record at this place passes.

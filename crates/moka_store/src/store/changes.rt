@@ -1,15 +1,15 @@
 //! Changes and reads at one place of the table.
 ghost use Rattle.std.specs.Prelude.{◌≡◌, ◌^◌, ◌<◌, ◌≤◌, IsOk, IsSome, OnOk, Some, option_map};
 ghost use Rattle.moka_store.specs.StoreRows.{member_in, row_room, timer_at, written_at};
-ghost use Rattle.moka_parts.specs.declared.records.Record.{Record};
-ghost use Rattle.moka_parts.specs.Records.{member};
-ghost use Rattle.moka_store.specs.RecordTable.{Row, number_at, row_at, stored_at};
-ghost use Rattle.moka_store.specs.Slots.{IsSlot};
+ghost use Rattle.moka_records.specs.declared.records.Record.{Record};
+ghost use Rattle.moka_records.specs.Records.{member};
+ghost use Rattle.moka_table.specs.RecordTable.{Row, number_at, row_at, stored_at};
+ghost use Rattle.moka_table.specs.Slots.{IsSlot};
 
 use super::Handle;
-use crate::table::RecordTable;
-use moka_parts::policy::Instant;
-use moka_parts::record_ref::RecordRef;
+use moka_records::instant::Instant;
+use moka_records::record_ref::RecordRef;
+use moka_table::RecordTable;
 use std::alloc::AllocError;
 
 /// A place in the index has 32 bits.

@@ -3,7 +3,7 @@ ghost use Rattle.std.specs.Prelude.{◌≡◌, ◌<◌, ℕ, Some, IfSome, IsSom
 ghost use Rattle.std.specs.FinMap as finite;
 
 use super::Store;
-use moka_parts::record_ref::RecordRef;
+use moka_records::record_ref::RecordRef;
 use std::hash::{BuildHasher, Hash};
 
 impl<K: Eq + Hash, V, S: BuildHasher> Store<K, V, S> {

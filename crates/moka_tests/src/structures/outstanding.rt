@@ -2,7 +2,7 @@
 ghost use Rattle.std.specs.Prelude.{◌≡◌, ◌≤◌, ℕ, None, OnOk};
 ghost use Rattle.std.specs.FinMap as map;
 
-use moka_structures::Outstanding;
+use moka_tickets::Outstanding;
 use std::alloc::AllocError;
 use std::test::Fail;
 

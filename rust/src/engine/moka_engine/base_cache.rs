@@ -2,9 +2,10 @@
 //! The cache. moka: `sync::base_cache`.
 use crate::support::prelude::*;
 
-use self::gets::Moments;
-use self::inserts::Plan;
 use crate::engine::moka_inner::{Hashes, Inner, Layout};
+use crate::engine::moka_lookups::causes;
+use crate::engine::moka_lookups::gets::{self, Moments};
+use crate::engine::moka_lookups::inserts::{self, Plan};
 use crate::engine::moka_parts::calls::{Entry, KvEntry, Ticket};
 use crate::engine::moka_parts::closures::{NoTest, PredicateFn, Weigher};
 use crate::engine::moka_parts::error::{CapacityError, InsertRefused, OutOfMemory, SendError};
@@ -19,20 +20,17 @@ use crate::support::alloc::Global;
 use crate::support::hash::{BuildHasher, Hash};
 
 mod by_key_test;
-mod causes;
-mod gets;
-mod inserts;
+mod hits;
 mod invalidation;
 mod looks;
 mod reports;
 mod restores;
 mod runs;
 mod sights;
-mod snapshot;
 
-pub use restores::{RestoreError, RestoreRefused, Restored};
-pub use sights::Sight;
-pub use snapshot::{Snapshot, SnapshotEntry};
+pub use crate::engine::moka_lookups::sights::Sight;
+pub use crate::engine::moka_lookups::snapshot::{Snapshot, SnapshotEntry};
+pub use crate::engine::moka_parts::restores::{RestoreError, RestoreRefused, Restored};
 
 // How many segments the map has.
 const SEGMENTS: usize = 1;
@@ -274,7 +272,7 @@ impl<
                 valid_after: &self.valid_after,
                 now,
             };
-            inserts::plan_for(&self.inner, &moments, &key, hashes.own, &value)
+            inserts::plan_for(self.inner.store(), &moments, &key, hashes.own, &value)
         };
         match plan {
             Plan::New(expires) => {
@@ -402,7 +400,7 @@ impl<
     fn contains_hashed<T: KeyTest<K>>(&self, test: &T, own: IndexHash, now: Instant) -> bool
     {
         let moments = self.moments(now);
-        gets::find_shown(&self.inner, &moments, &self.invalidator, (test, own)).is_some()
+        gets::find_shown(self.inner.store(), &moments, &self.invalidator, (test, own)).is_some()
     }
 
     // What hides records at the moment `now`, but for predicates.

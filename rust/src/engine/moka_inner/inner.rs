@@ -19,12 +19,12 @@ use crate::engine::moka_parts::record_ref::RecordRef;
 use crate::engine::moka_parts::records::{Operation, ReadOperation, Record};
 use crate::engine::moka_sketch::frequency_sketch::FrequencySketch;
 use crate::engine::moka_store::{Handle, IndexHash, MOST_PLACES, Store, Update};
-use crate::engine::moka_structures::outstanding::Outstanding;
+use crate::engine::moka_tickets::outstanding::Outstanding;
 use crate::support::alloc::{AllocError, Global};
 use crate::support::hash::{BuildHasher, Hash};
 
 mod by_key_test;
-mod members;
+mod restores;
 
 // How many operations and how many reads can be queued. moka: `WRITE_LOG_SIZE`, `READ_LOG_SIZE`.
 const QUEUE_SIZE: usize = 384;
@@ -91,6 +91,13 @@ impl<K: Eq + Hash, V, S: BuildHasher> Inner<K, V, S> {
     pub fn invariant_holds(&self)
     {
         self.store.invariant_holds();
+    }
+
+    /// The store, for look-ups.
+    #[inline(always)]
+    pub fn store(&self) -> &Store<K, V, S>
+    {
+        &self.store
     }
 
     /// The hash of a key by the store's hasher.

@@ -13,26 +13,7 @@ pub use expiration_policy::ExpirationPolicy;
 pub use expire_after::{
     ExpireAfter, ExpireAfterCreate, ExpireAfterRead, ExpireAfterUpdate, NoExpiry,
 };
-
-/// A point in time, in nanoseconds since an arbitrary fixed origin. moka: `common::time::Instant`.
-#[derive(Clone, Copy, Debug, PartialEq, Eq, PartialOrd, Ord)]
-pub struct Instant(pub u64);
-
-impl Instant {
-
-    /// The moment that lies so much later, saturating at the greatest.
-    pub fn saturating_add(self, duration: Duration) -> Instant
-    {
-        let nanos = u64::try_from(duration.as_nanos()).unwrap_or(u64::MAX);
-        Instant(self.0.saturating_add(nanos))
-    }
-
-    /// The time since an earlier moment, zero if `earlier` is later.
-    pub fn saturating_duration_since(self, earlier: Instant) -> Duration
-    {
-        Duration::from_nanos(self.0.saturating_sub(earlier.0))
-    }
-}
+pub use crate::engine::moka_records::instant::Instant;
 
 /// A cache's limits, as they are set. moka: `policy::Policy`.
 #[derive(Clone, Debug)]

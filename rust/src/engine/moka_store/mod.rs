@@ -3,7 +3,6 @@
 use crate::support::prelude::*;
 
 pub mod store;
-pub mod table;
 mod timers;
 mod write_list;
 

@@ -4,17 +4,18 @@
 //! moka: `sync::base_cache::Inner`, whose maps and deques these are.
 use crate::support::prelude::*;
 
-use crate::engine::moka_store::table::{Membership, RecordTable};
 use crate::engine::moka_store::timers::Timers;
 use crate::engine::moka_store::write_list::WriteList;
 pub use changes::MOST_PLACES;
 pub use hashing::IndexHash;
 use crate::engine::moka_index::PlaceIndex;
-use crate::engine::moka_parts::key_test::SameKey;
-use crate::engine::moka_parts::policy::Instant;
-use crate::engine::moka_parts::record_ref::RecordRef;
-use crate::engine::moka_parts::records::Record;
+use crate::engine::moka_records::instant::Instant;
+use crate::engine::moka_records::key_test::SameKey;
+use crate::engine::moka_records::record_ref::RecordRef;
+use crate::engine::moka_records::records::Record;
 use crate::engine::moka_structures::OrderList;
+pub use crate::engine::moka_table::Update;
+use crate::engine::moka_table::{Membership, RecordTable};
 use crate::support::alloc::{AllocError, Global};
 use crate::support::hash::{BuildHasher, Hash};
 
@@ -31,15 +32,6 @@ const FAR: usize = 1 << 18;
 pub struct Handle {
     pub number: u64,
     pub place: usize,
-}
-
-/// What an insert writes into the record of its key.
-pub struct Update<V> {
-    pub value: V,
-    /// When it is inserted, which counts as a read too.
-    pub now: Instant,
-    pub expires: Option<Instant>,
-    pub weight: u32,
 }
 
 /// The records of a cache, found by key or by handle, with their orders of access and of writing, their timers and the

@@ -2,7 +2,7 @@
 //! The timers of rows, if an expiry is set.
 use crate::support::prelude::*;
 
-use crate::engine::moka_parts::policy::Instant;
+use crate::engine::moka_records::instant::Instant;
 use crate::engine::moka_wheel::{Due, TimerWheel};
 use crate::support::alloc::{AllocError, Global};
 

@@ -6,7 +6,7 @@ use crate::support::test::prelude::*;
 
 use crate::engine::moka_parts::policy::Instant;
 use crate::engine::moka_parts::records::Record;
-use crate::engine::moka_store::table::RecordTable;
+use crate::engine::moka_table::table::RecordTable;
 use crate::support::alloc::{AllocError, Global};
 use crate::support::test::test::Fail;
 

@@ -1,4 +1,4 @@
-use Rattle.moka_parts.proofs.Lookup.{removes_just_one}
+use Rattle.moka_parts.proofs.Removals.{removes_just_one}
 use Rattle.moka_laws.proofs.laws.removes_just_one.Goals as goal
 
 pub returns : goal.returns

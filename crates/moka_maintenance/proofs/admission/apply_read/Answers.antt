@@ -1,6 +1,6 @@
 use Rattle.std.proofs.Common.{◌≡◌, ℕ, Bool, true, is_some, refl, sym, ap, ◌∙◌, true≢false}
 use Rattle.std.specs.FinMap.{get}
-use Rattle.moka_parts.specs.declared.records.ReadOperation.TheVariants.{Hit}
+use Rattle.moka_records.specs.declared.records.ReadOperation.TheVariants.{Hit}
 use Rattle.moka_store.proofs.Gets.{none_by_test}
 use Rattle.moka_maintenance.specs.Queued.{read_of, read_with}
 use Rattle.moka_maintenance.specs.Steps.{contents_in}

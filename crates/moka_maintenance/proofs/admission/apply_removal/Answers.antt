@@ -1,9 +1,9 @@
 use Rattle.std.proofs.Common.{◌≡◌, is_some, refl, sym, ap, ◌∙◌, true≢false, arith, ℕ}
 use Rattle.std.specs.FinMap as finite
-use Rattle.moka_parts.specs.Records.{counted_of, without_member, without_number}
-use Rattle.moka_parts.proofs.AccessList.{absent_taken_out, counted_taken_out}
+use Rattle.moka_records.specs.Records.{counted_of, without_member, without_number}
+use Rattle.moka_records.proofs.AccessList.{absent_taken_out, counted_taken_out}
 use Rattle.moka_store.specs.Store.{Kept, cursor_past}
-use Rattle.moka_parts.proofs.WriteList.{unlisted_taken_out}
+use Rattle.moka_records.proofs.WriteList.{unlisted_taken_out}
 use Rattle.moka_maintenance.specs.Steps.{contents_in}
 use Rattle.moka_maintenance.proofs.Upkeep.{upkeep-none, upkeep-left}
 use Rattle.moka_maintenance.proofs.Placed.{no_row, rows-unplaced, rows-forgotten}

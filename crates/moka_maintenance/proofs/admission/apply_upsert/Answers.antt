@@ -1,5 +1,5 @@
 use Rattle.std.proofs.Common.{arith, refl, sym, ap, ◌∙◌}
-use Rattle.moka_parts.specs.Records.{number_to_back}
+use Rattle.moka_records.specs.Records.{number_to_back}
 use Rattle.moka_store.specs.Store.{Kept}
 use Rattle.moka_maintenance.specs.Steps.{contents_with}
 use Rattle.moka_maintenance.proofs.Fates.{applied-absent, applied-overtaken, applied-counted, applies-upsert, entered-recounted}

@@ -1,5 +1,5 @@
 use Rattle.std.proofs.Common.{ap, sym, subst}
-use Rattle.moka_parts.specs.declared.records.Operation.{Operation}
+use Rattle.moka_records.specs.declared.records.Operation.{Operation}
 use Rattle.moka_parts.specs.State.{Contents}
 use Rattle.moka_maintenance.specs.Queues.{AppliesWrite}
 use Rattle.moka_maintenance.specs.Steps.{contents_with}

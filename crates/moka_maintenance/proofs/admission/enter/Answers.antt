@@ -1,6 +1,6 @@
 use Rattle.std.proofs.Common.{ap, ◌∙◌}
 use Rattle.std.specs.FinMap as finite
-use Rattle.moka_parts.specs.Records.{entered_by}
+use Rattle.moka_records.specs.Records.{entered_by}
 use Rattle.moka_store.specs.Store.{Kept}
 use Rattle.moka_store.proofs.Gets.{some_is}
 use Rattle.moka_maintenance.proofs.Upkeep.{entered-upkeep}

@@ -1,5 +1,5 @@
 use Rattle.std.proofs.Common.{sym, refl, ◌∙◌}
-use Rattle.moka_parts.proofs.AccessList.{absent_taken_out}
+use Rattle.moka_records.proofs.AccessList.{absent_taken_out}
 use Rattle.moka_store.proofs.Gets.{none_by_test}
 use Rattle.moka_store.proofs.KnownOrders.{off-written, off-timers, off-cursor}
 use Rattle.moka_maintenance.proofs.admission.leave.Goals as goal

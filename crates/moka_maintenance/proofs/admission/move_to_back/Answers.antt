@@ -1,7 +1,7 @@
 use Rattle.std.proofs.Common.{◌++◌, [], ◌∷◌, true≢false, sym, ap, refl, ◌∙◌}
 use Rattle.std.proofs.lemmas.Bool.{cond-false}
 use Rattle.std.specs.FinMap as finite
-use Rattle.moka_parts.specs.Records.{is_listed, without_number}
+use Rattle.moka_records.specs.Records.{is_listed, without_number}
 use Rattle.moka_store.specs.Store.{Kept}
 use Rattle.moka_store.proofs.Gets.{none_by_test, some_is}
 use Rattle.moka_store.proofs.KnownOrders.{off-cursor}

@@ -1,10 +1,10 @@
 use Rattle.std.proofs.Common.{◌≡◌, ℕ, Option, Some, sym, ap, ◌∙◌, is_some}
-use Rattle.moka_parts.specs.declared.records.Record.{Record}
+use Rattle.moka_records.specs.declared.records.Record.{Record}
 use Rattle.std.proofs.lemmas.Bool.{eq-eqb}
 use Rattle.moka_store.specs.Store.{Kept}
 use Rattle.moka_maintenance.proofs.Fates.{rejected-gone}
 use Rattle.moka_maintenance.specs.Steps.{Stock, contents_in}
-use Rattle.moka_parts.proofs.WriteList.{unlisted_taken_out}
+use Rattle.moka_records.proofs.WriteList.{unlisted_taken_out}
 use Rattle.moka_maintenance.proofs.admission.reject.Goals as goal
 use Rattle.moka_maintenance.proofs.Upkeep.{upkeep-outside}
 

@@ -2,9 +2,9 @@ use Rattle.std.proofs.Common.{◌≡◌, refl, ℕ, ◌+◌, ◌<◌, ◌≤◌,
 use Rattle.std.specs.FinMap.{FinMap, get}
 use Rattle.std.specs.Ordering.{nat_cmp}
 use Rattle.moka_parts.specs.Frequency.{frequency}
-use Rattle.moka_parts.specs.declared.records.Member.{Member}
+use Rattle.moka_records.specs.declared.records.Member.{Member}
 use Rattle.moka_parts.specs.Candidates.{hash_of}
-use Rattle.moka_parts.specs.Records.{counted_of, is_settled, member, to_back}
+use Rattle.moka_records.specs.Records.{counted_of, is_settled, member, to_back}
 use Rattle.moka_store.specs.Store.{Kept}
 use Rattle.moka_store.specs.declared.store.Handle.{Handle}
 use Rattle.moka_maintenance.specs.Chosen.{Chooses}

@@ -1,5 +1,5 @@
 use Rattle.std.proofs.Common.{◌≡◌, ◌+◌, ◌-◌, ◌*◌, ◌^◌, ◌<◌, IfSome, IsSome, option_map}
-use Rattle.moka_parts.specs.Records.{counted_of, member}
+use Rattle.moka_records.specs.Records.{counted_of, member}
 use Rattle.moka_store.specs.Store.{IsPlaced}
 use Rattle.moka_maintenance.specs.Steps.{contents_with}
 use Rattle.moka_maintenance.proofs.Walking.{Walks}

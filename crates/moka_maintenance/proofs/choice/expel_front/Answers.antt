@@ -5,15 +5,14 @@ use Rattle.std.specs.FinMap.{get, remove}
 use Rattle.std.specs.List.{IsDistinct, list_all}
 use Rattle.std.specs.Option.{option_map_or}
 use Rattle.moka_parts.specs.State.{Contents}
-use Rattle.moka_parts.specs.Records.{member, numbers_of, without_numbers, Records, counted_of, is_applied, is_settled, without_member, without_number}
+use Rattle.moka_records.specs.Records.{member, numbers_of, without_numbers, Records, counted_of, is_applied, is_settled, without_member, without_number}
 use Rattle.moka_parts.specs.declared.notification.RemovalCause.{RemovalCause}
 use Rattle.moka_parts.specs.declared.notification.RemovalCause.TheVariants.{Size}
-use Rattle.moka_parts.specs.declared.records.Member.{Member}
+use Rattle.moka_records.specs.declared.records.Member.{Member}
 use Rattle.moka_parts.specs.Writes.{left_with, without_victims}
 use Rattle.moka_parts.specs.Maintenance.{Removes, after_choice, left_by_choice}
-use Rattle.moka_parts.proofs.AccessList.{distinct_taken_out, absent_taken_out, counted_taken_out, uncounted_taken_out}
-use Rattle.moka_parts.proofs.Counting.{front_once, counted_front}
-use Rattle.moka_parts.proofs.Maps.{itself_tested}
+use Rattle.moka_records.proofs.AccessList.{distinct_taken_out, absent_taken_out, counted_taken_out, uncounted_taken_out, front_once, counted_front}
+use Rattle.moka_records.proofs.Maps.{itself_tested}
 use Rattle.moka_store.specs.Store.{Kept}
 use Rattle.moka_store.proofs.Gets.{get-past_remove}
 use Rattle.moka_maintenance.specs.Steps.{Stock, contents_in, Told}

@@ -1,7 +1,7 @@
 use Rattle.std.proofs.Common.{◌≡◌, ◌==◌, ℕ, None, Option, take}
 use Rattle.std.specs.FinMap as finite
 use Rattle.std.specs.List.{IsDistinct}
-use Rattle.moka_parts.specs.Records.{counted_of, numbers_of, without_numbers}
+use Rattle.moka_records.specs.Records.{counted_of, numbers_of, without_numbers}
 use Rattle.moka_parts.specs.Writes.{left_with, without_victims}
 use Rattle.moka_maintenance.specs.Chosen.{AreSettled}
 use Rattle.moka_maintenance.specs.Steps.{contents_in, Told}

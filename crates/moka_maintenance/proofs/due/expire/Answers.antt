@@ -1,8 +1,8 @@
 use Rattle.std.proofs.Common.{false, refl, sym, ap, ◌∙◌}
 use Rattle.std.specs.FinMap as finite
 use Rattle.std.specs.Option.{option_map_or}
-use Rattle.moka_parts.specs.Records.{is_applied}
-use Rattle.moka_parts.specs.Time.{has_passed, moment_of}
+use Rattle.moka_records.specs.Records.{is_applied}
+use Rattle.moka_records.specs.Time.{has_passed, moment_of}
 use Rattle.moka_store.specs.Store.{Kept}
 use Rattle.moka_store.proofs.Gets.{get-removed}
 use Rattle.moka_maintenance.specs.Steps.{Stock, stock_in}

@@ -1,8 +1,8 @@
 use Rattle.std.proofs.Common.{◌≡◌, ◌≤◌, ap, ◌∙◌, sym, subst, arith, Option, is_some, option_map}
 use Rattle.std.specs.Prelude.{option_to_list}
 use Rattle.std.specs.FinMap as finite
-use Rattle.moka_parts.specs.declared.records.Record.{Record}
-use Rattle.moka_parts.specs.Records.{when_listening}
+use Rattle.moka_records.specs.declared.records.Record.{Record}
+use Rattle.moka_parts.specs.Notices.{when_listening}
 use Rattle.moka_parts.specs.Surroundings.{Heard}
 use Rattle.moka_store.specs.Store.{Kept}
 use Rattle.moka_maintenance.specs.Expelled.{without_record}

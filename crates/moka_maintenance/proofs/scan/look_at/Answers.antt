@@ -1,7 +1,7 @@
 use Rattle.std.proofs.Common.{◌≡◌, true, false, Some, inl, inr, refl, sym, ap, subst, ◌∙◌}
 use Rattle.std.proofs.lemmas.Option.{same_Some}
 use Rattle.std.specs.Option.{option_map_or}
-use Rattle.moka_parts.specs.Records.{is_applied, is_settled}
+use Rattle.moka_records.specs.Records.{is_applied, is_settled}
 use Rattle.moka_parts.specs.Visibility.{NoneCovers}
 use Rattle.moka_maintenance.proofs.Fronts.{settled_member}
 use Rattle.moka_maintenance.proofs.scan.look_at.Goals as goal

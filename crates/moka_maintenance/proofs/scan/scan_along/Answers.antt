@@ -1,7 +1,7 @@
 use Rattle.std.proofs.Common.{◌≡◌, ◌==◌, Bool, true, false, true≢false, not, None, Some, Option, IfSome, is_none, is_some, option_map, inl, inr, refl, sym, ap, subst, ◌∙◌, arith}
 use Rattle.std.specs.List.{IsDistinct}
 use Rattle.moka_store.specs.declared.store.Handle.{Handle}
-use Rattle.moka_parts.specs.Records.{counted_of, is_listed}
+use Rattle.moka_records.specs.Records.{counted_of, is_listed}
 use Rattle.moka_store.specs.Store.{Kept, IsPlaced, IsOrdered}
 use Rattle.moka_maintenance.specs.Scanning.{IsWalked}
 use Rattle.moka_maintenance.proofs.Walked.{at_most_one, walked-none, walked-on, walked-cursor, next-ordered, turn_keeps}

@@ -2,7 +2,7 @@ use Rattle.std.proofs.Common.{false, Some, ap, sym, ◌∙◌, ◌≡◌, ℕ, B
 use Rattle.moka_parts.specs.Frequency.{size_asked, table_length_for, Table, no_counts}
 use Rattle.moka_parts.specs.Maintenance.{is_sketch_due, with_sketch, length_of_new_table}
 use Rattle.moka_parts.specs.declared.policy.EvictionPolicy.{EvictionPolicy}
-use Rattle.moka_parts.specs.Records.{total_weight}
+use Rattle.moka_records.specs.Records.{total_weight}
 use Rattle.moka_parts.specs.State.{Contents}
 use Rattle.moka_maintenance.specs.Steps.{contents_with}
 use Rattle.moka_maintenance.proofs.sketch.enable_frequency_sketch.Goals as goal

@@ -1,4 +1,4 @@
-use Rattle.moka_parts.specs.Hashing.{key_hash}
+use Rattle.moka_records.specs.Hashing.{key_hash}
 use Rattle.moka_calls.specs.Synchronous.{meaning_of}
 use Rattle.moka_restore_laws.proofs.Among.{restores_among_calls}
 use Rattle.moka_restore_laws.proofs.laws.restores_among_calls.Goals as goal

@@ -1,4 +1,4 @@
-use Rattle.moka_parts.specs.Hashing.{key_hash}
+use Rattle.moka_records.specs.Hashing.{key_hash}
 use Rattle.moka_calls.specs.Synchronous.{meaning_of}
 use Rattle.moka_segment_laws.proofs.Moving.{get_with}
 use Rattle.moka_segment_laws.proofs.laws.get_with_is_move.Goals as goal

@@ -1,5 +1,5 @@
 use Rattle.moka_segment_laws.proofs.KeptInPlace.{get_with}
-use Rattle.moka_parts.specs.Hashing.{key_hash}
+use Rattle.moka_records.specs.Hashing.{key_hash}
 use Rattle.moka_segment_laws.proofs.laws.get_with_keeps_keys.Goals as goal
 
 pub returns : goal.returns

@@ -1,5 +1,5 @@
 use Rattle.moka_segments.proofs.Keys.{none_belong}
-use Rattle.moka_parts.specs.Hashing.{key_hash}
+use Rattle.moka_records.specs.Hashing.{key_hash}
 use Rattle.moka_segment_laws.proofs.laws.none_belong.Goals as goal
 
 pub returns : goal.returns

@@ -1,6 +1,6 @@
 use Rattle.std.proofs.Common.{ap}
 use Rattle.moka_segment_laws.proofs.Belonging.{in_one_segment}
-use Rattle.moka_parts.specs.Hashing.{key_hash}
+use Rattle.moka_records.specs.Hashing.{key_hash}
 use Rattle.moka_segment_laws.proofs.laws.one_segment_each.Goals as goal
 
 pub returns : goal.returns

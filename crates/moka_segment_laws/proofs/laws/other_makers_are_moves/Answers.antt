@@ -1,4 +1,4 @@
-use Rattle.moka_parts.specs.Hashing.{key_hash}
+use Rattle.moka_records.specs.Hashing.{key_hash}
 use Rattle.moka_calls.specs.Synchronous.{meaning_of}
 use Rattle.moka_segment_laws.proofs.Moving.{get_with_if_made, get_with_if_no_error}
 use Rattle.moka_segment_laws.proofs.laws.other_makers_are_moves.Goals as goal

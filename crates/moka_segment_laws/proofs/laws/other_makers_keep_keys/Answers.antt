@@ -1,5 +1,5 @@
 use Rattle.moka_segment_laws.proofs.KeptInPlace.{get_with_if_made, get_with_if_no_error}
-use Rattle.moka_parts.specs.Hashing.{key_hash}
+use Rattle.moka_records.specs.Hashing.{key_hash}
 use Rattle.moka_segment_laws.proofs.laws.other_makers_keep_keys.Goals as goal
 
 pub returns : goal.returns

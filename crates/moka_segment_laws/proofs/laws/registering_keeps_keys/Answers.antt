@@ -1,4 +1,4 @@
-use Rattle.moka_parts.specs.Hashing.{key_hash}
+use Rattle.moka_records.specs.Hashing.{key_hash}
 use Rattle.moka_calls.specs.Synchronous.{meaning_of}
 use Rattle.moka_segment_laws.proofs.KeptInPlace.{registering}
 use Rattle.moka_segment_laws.proofs.laws.registering_keeps_keys.Goals as goal

@@ -3,8 +3,8 @@
 use crate::support::prelude::*;
 
 use super::BaseCache;
-use super::gets::Hit;
 use crate::engine::moka_inner::Hashes;
+use crate::engine::moka_lookups::gets::Hit;
 use crate::engine::moka_parts::calls::{Entry, KvEntry, Ticket};
 use crate::engine::moka_parts::closures::{NoTest, PredicateFn, Weigher};
 use crate::engine::moka_parts::error::OutOfMemory;

@@ -3,9 +3,9 @@
 //! moka: `sync::base_cache::BaseCache`, `common::concurrent::ScanningGet`.
 use crate::support::prelude::*;
 
-use super::BaseCache;
-use super::gets::{self, Look, Moments};
+use super::{BaseCache, hits};
 use crate::engine::moka_inner::Hashes;
+use crate::engine::moka_lookups::gets::{self, Look, Moments};
 use crate::engine::moka_parts::calls::Entry;
 use crate::engine::moka_parts::closures::{NoTest, PredicateFn, ValueTest, Weigher};
 use crate::engine::moka_parts::error::OutOfMemory;
@@ -75,12 +75,12 @@ impl<
                 valid_after: &self.valid_after,
                 now,
             };
-            let (inner, predicates) = (&self.inner, &self.invalidator);
-            gets::look_up(inner, &moments, predicates, sought, ignore_if, need_key)
+            let (store, predicates) = (self.inner.store(), &self.invalidator);
+            gets::look_up(store, &moments, predicates, sought, ignore_if, need_key)
         };
         match looked {
             Look::Found(handle, (entry, hash, hit)) => {
-                if gets::note_hit(&mut self.inner, &self.housekeeper, handle, hash, hit) {
+                if hits::note_hit(&mut self.inner, &self.housekeeper, handle, hash, hit) {
                     self.record_hit_by(sought, handle.number, hash, hit, clock);
                     return Ok(Some(entry));
                 }
@@ -133,7 +133,13 @@ impl<
                 valid_after: &self.valid_after,
                 now,
             };
-            gets::look_at(&self.inner, &moments, &self.invalidator, sought, test)
+            gets::look_at(
+                self.inner.store(),
+                &moments,
+                &self.invalidator,
+                sought,
+                test,
+            )
         };
         match looked {
             Look::Found(handle, (value, hit)) => {
@@ -157,7 +163,7 @@ impl<
     {
         let moments = self.moments(now);
         let sought = (&SameKey(key), self.inner.index_hash(key));
-        let shown = gets::find_shown(&self.inner, &moments, &self.invalidator, sought);
+        let shown = gets::find_shown(self.inner.store(), &moments, &self.invalidator, sought);
         let Some((_, found)) = shown else {
             return Ok(None);
         };

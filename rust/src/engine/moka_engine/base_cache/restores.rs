@@ -2,87 +2,16 @@
 //! Entries that are put back, as a snapshot listed them.
 use crate::support::prelude::*;
 
-use super::{BaseCache, inserts};
-use crate::engine::moka_inner::{Hashes, Inner};
+use super::BaseCache;
+use crate::engine::moka_inner::Hashes;
+use crate::engine::moka_lookups::inserts;
 use crate::engine::moka_parts::calls::Ticket;
 use crate::engine::moka_parts::closures::{PredicateFn, Weigher};
-use crate::engine::moka_parts::error::InsertError;
 use crate::engine::moka_parts::notification::Listener;
 use crate::engine::moka_parts::policy::{ExpirationPolicy, Expiry, Instant};
+use crate::engine::moka_parts::restores::{RestoreError, RestoreRefused, Restored};
 use crate::engine::moka_store::{IndexHash, Update};
-use std::error::Error;
-use std::fmt;
 use crate::support::hash::{BuildHasher, Hash};
-
-/// An entry to be put back, with the moments and the expiry that it had.
-#[derive(Debug)]
-pub struct Restored<K, V> {
-    /// The key under which it is put back.
-    pub key: K,
-    /// The value that it had.
-    pub value: V,
-    /// When it was last inserted.
-    pub last_modified: Instant,
-    /// When it was last inserted or read.
-    pub last_accessed: Instant,
-    /// When it expires by its own expiry, if it does.
-    pub expires: Option<Instant>,
-}
-
-/// Why an entry was not put back.
-#[derive(Clone, Copy, Debug, PartialEq, Eq)]
-pub enum RestoreError {
-    /// The key has an entry, visible or not.
-    KeyPresent,
-    /// The entry has an expiry of its own, and the cache has no expiry set.
-    NoExpiry,
-    /// There are not enough tickets left.
-    NumbersUsedUp,
-    /// Memory was refused, or a record would need a place of more than 32 bits.
-    OutOfMemory,
-}
-
-impl fmt::Display for RestoreError {
-
-    fn fmt(&self, f: &mut fmt::Formatter<'_>) -> fmt::Result {
-        f.write_str(match self {
-            RestoreError::KeyPresent => "The key has an entry",
-            RestoreError::NoExpiry => "The cache has no expiry for single entries",
-            RestoreError::NumbersUsedUp => "All tickets are used up",
-            RestoreError::OutOfMemory => "Out of memory",
-        })
-    }
-}
-
-impl Error for RestoreError {}
-
-impl From<InsertError> for RestoreError {
-
-    fn from(error: InsertError) -> RestoreError {
-        match error {
-            InsertError::NumbersUsedUp => RestoreError::NumbersUsedUp,
-            InsertError::OutOfMemory => RestoreError::OutOfMemory,
-        }
-    }
-}
-
-/// An entry that was not put back, and why. Nothing has changed.
-#[derive(Debug)]
-pub struct RestoreRefused<K, V> {
-    /// Why it was not.
-    pub error: RestoreError,
-    /// The entry, as it was handed in.
-    pub item: Restored<K, V>,
-}
-
-impl<K, V> fmt::Display for RestoreRefused<K, V> {
-
-    fn fmt(&self, f: &mut fmt::Formatter<'_>) -> fmt::Result {
-        write!(f, "{}", self.error)
-    }
-}
-
-impl<K: fmt::Debug, V: fmt::Debug> Error for RestoreRefused<K, V> {}
 
 impl<
     K: Eq + Hash,
@@ -105,7 +34,7 @@ impl<
     {
         let hash = self.inner.hash(&item.key);
         let own = IndexHash::of(hash);
-        if has_key(&self.inner, &item.key, own) {
+        if inserts::has_key(self.inner.store(), &item.key, own) {
             let error = RestoreError::KeyPresent;
             return Err(RestoreRefused { error, item });
         }
@@ -133,12 +62,6 @@ impl<
         };
         Ok(self.inner.restore(key, Hashes { hash, own }, update, read))
     }
-}
-
-// Whether a key has a record.
-fn has_key<K: Eq + Hash, V, S: BuildHasher>(inner: &Inner<K, V, S>, key: &K, own: IndexHash) -> bool
-{
-    inner.find(key, own).is_some()
 }
 
 // Whether an entry has an expiry of its own, and the cache has none set.

@@ -3,9 +3,9 @@
 use crate::support::prelude::*;
 
 use super::{Handle, IndexHash, Store, changes};
-use crate::engine::moka_store::table::RecordTable;
-use crate::engine::moka_parts::key_test::KeyTest;
-use crate::engine::moka_parts::record_ref::RecordRef;
+use crate::engine::moka_records::key_test::KeyTest;
+use crate::engine::moka_records::record_ref::RecordRef;
+use crate::engine::moka_table::RecordTable;
 use crate::support::hash::{BuildHasher, Hash};
 
 // Whether the key of the record at this place passes.

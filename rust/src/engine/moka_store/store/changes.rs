@@ -3,9 +3,9 @@
 use crate::support::prelude::*;
 
 use super::Handle;
-use crate::engine::moka_store::table::RecordTable;
-use crate::engine::moka_parts::policy::Instant;
-use crate::engine::moka_parts::record_ref::RecordRef;
+use crate::engine::moka_records::instant::Instant;
+use crate::engine::moka_records::record_ref::RecordRef;
+use crate::engine::moka_table::RecordTable;
 use crate::support::alloc::AllocError;
 
 /// A place in the index has 32 bits.

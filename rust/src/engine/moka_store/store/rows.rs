@@ -3,7 +3,7 @@
 use crate::support::prelude::*;
 
 use super::Store;
-use crate::engine::moka_parts::record_ref::RecordRef;
+use crate::engine::moka_records::record_ref::RecordRef;
 use crate::support::hash::{BuildHasher, Hash};
 
 impl<K: Eq + Hash, V, S: BuildHasher> Store<K, V, S> {

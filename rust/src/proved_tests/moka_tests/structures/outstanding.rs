@@ -4,7 +4,7 @@ use crate::support::prelude::*;
 #[cfg(test)]
 use crate::support::test::prelude::*;
 
-use crate::engine::moka_structures::Outstanding;
+use crate::engine::moka_tickets::Outstanding;
 use crate::support::alloc::AllocError;
 use crate::support::test::test::Fail;
 

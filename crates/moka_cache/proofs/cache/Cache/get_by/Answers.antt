@@ -1,10 +1,11 @@
 use Rattle.std.proofs.Common.{◌≡◌, ◌∙◌, ap, sym, subst, true, false, is_some, Some}
 use Rattle.std.specs.Prelude.{IfOk, IfSome}
-use Rattle.moka_parts.specs.declared.records.Record.{Record}
-use Rattle.moka_parts.specs.KeyTests.{ContainsByStep, record_by}
+use Rattle.moka_records.specs.declared.records.Record.{Record}
+use Rattle.moka_parts.specs.KeyTests.{ContainsByStep}
+use Rattle.moka_records.specs.KeyTests.{record_by}
 use Rattle.moka_parts.specs.Visibility.{IsShown}
 use Rattle.moka_parts.specs.Listed.{ListedRun}
-use Rattle.moka_parts.specs.Records.{record_of_key}
+use Rattle.moka_records.specs.Records.{record_of_key}
 use Rattle.moka_calls.specs.Given.{Sees}
 use Rattle.moka_calls.specs.Synchronous.{value_found}
 use Rattle.moka_laws.proofs.Alike.{gets_alike, listed_run_alike}

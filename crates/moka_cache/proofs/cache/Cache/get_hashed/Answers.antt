@@ -1,6 +1,6 @@
 use Rattle.std.proofs.Common.{◌∙◌, false}
 use Rattle.moka_parts.specs.Listed.{ListedRun}
-use Rattle.moka_parts.specs.Records.{record_of_key}
+use Rattle.moka_records.specs.Records.{record_of_key}
 use Rattle.moka_calls.specs.Given.{Sees}
 use Rattle.moka_calls.specs.Synchronous.{value_found}
 use Rattle.moka_laws.proofs.Alike.{get_alike, listed_run_alike}

@@ -1,6 +1,6 @@
 use Rattle.std.proofs.Common.{◌≡◌, ◌+◌, ◌≤◌, List, ◌++◌, length, map, Option, vec_len}
 use Rattle.std.specs.Prelude.{vec_capacity}
-use Rattle.moka_parts.specs.Hashing.{key_hash}
+use Rattle.moka_records.specs.Hashing.{key_hash}
 use Rattle.moka_parts.specs.Counters.{after_look_ups}
 use Rattle.moka_calls.specs.Many.{Each, GetsItem}
 use Rattle.moka_calls.specs.Synchronous.{Makes, meaning_of}

@@ -1,5 +1,5 @@
 use Rattle.std.proofs.Common.{rules, of_calls}
-use Rattle.moka_parts.specs.Hashing.{key_hash}
+use Rattle.moka_records.specs.Hashing.{key_hash}
 use Rattle.moka_cache.proofs.Entries.{always_fresh}
 use Rattle.moka_cache.proofs.cache.Cache.get_or_insert_with.Goals as goal
 

@@ -1,7 +1,7 @@
 use Rattle.std.proofs.Common.{◌∙◌, ap, arith, sym, refl, ℕ, [], ◌∷◌, ◌++◌, append_assoc, append-nil, length-append, Err}
 use Rattle.std.specs.Vec.Iter.{into_iter_items}
 use Rattle.std.proofs.lemmas.List.{nil_from_length}
-use Rattle.moka_parts.specs.Hashing.{key_hash}
+use Rattle.moka_records.specs.Hashing.{key_hash}
 use Rattle.moka_calls.specs.Many.{InsertsItem}
 use Rattle.moka_calls.specs.Synchronous.{InsertsEntry}
 use Rattle.moka_cache.proofs.InOrder.{made_none, made_next, made_last, refused_item}

@@ -1,6 +1,6 @@
 use Rattle.std.proofs.Common.{◌≡◌, ◌+◌, List, ◌++◌, length}
 use Rattle.std.specs.Vec.Iter.{into_iter_items, into_iter_len}
-use Rattle.moka_parts.specs.Hashing.{key_hash}
+use Rattle.moka_records.specs.Hashing.{key_hash}
 use Rattle.moka_calls.specs.Many.{Each, InsertsItem}
 use Rattle.moka_calls.specs.Synchronous.{Makes, meaning_of}
 use Rattle.moka_cache.proofs.cache.Cache.insert_many.Given as goal

@@ -1,6 +1,6 @@
 use Rattle.std.proofs.Common.{◌∙◌, ap, arith, sym, refl, ℕ, [], ◌∷◌, ◌++◌, append_assoc, append-nil, length, length-append, Ok, Err}
 use Rattle.std.proofs.lemmas.List.{nil_from_length}
-use Rattle.moka_parts.specs.Hashing.{key_hash}
+use Rattle.moka_records.specs.Hashing.{key_hash}
 use Rattle.moka_calls.specs.Many.{Invalidates}
 use Rattle.moka_cache.proofs.InOrder.{made_none, made_next, made_last}
 use Rattle.moka_cache.proofs.cache.Cache.invalidate_many.Goals as goal

@@ -1,5 +1,5 @@
 use Rattle.std.proofs.Common.{◌≡◌, List, ◌++◌, length, Ok}
-use Rattle.moka_parts.specs.Hashing.{key_hash}
+use Rattle.moka_records.specs.Hashing.{key_hash}
 use Rattle.moka_calls.specs.Many.{Each, Invalidates}
 use Rattle.moka_calls.specs.Synchronous.{Makes, hears_clones, meaning_of}
 use Rattle.moka_cache.proofs.cache.Cache.invalidate_many.Given as goal

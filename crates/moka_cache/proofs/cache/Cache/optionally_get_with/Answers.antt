@@ -1,6 +1,6 @@
 use Rattle.std.proofs.Common.{option_map, rules, of_calls}
 use Rattle.std.specs.Result.{result_ok}
-use Rattle.moka_parts.specs.Hashing.{key_hash}
+use Rattle.moka_records.specs.Hashing.{key_hash}
 use Rattle.moka_calls.specs.Given.{if_made}
 use Rattle.moka_cache.proofs.Getting.{may_decline}
 use Rattle.moka_cache.proofs.cache.Cache.optionally_get_with.Goals as goal

@@ -1,6 +1,6 @@
 use Rattle.std.proofs.Common.{ℕ, ◌∙◌}
 use Rattle.std.proofs.lemmas.Result.{err_from_is_err_and}
-use Rattle.moka_parts.specs.Hashing.{key_hash}
+use Rattle.moka_records.specs.Hashing.{key_hash}
 use Rattle.moka_calls.specs.Synchronous.{InsertsMade, Makes}
 use Rattle.moka_cache.proofs.Computing.{put_inserted, put_refused, put_replaced}
 use Rattle.moka_cache.proofs.cache.Cache.put_computed.Goals as goal

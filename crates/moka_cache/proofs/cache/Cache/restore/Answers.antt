@@ -3,7 +3,7 @@ use Rattle.std.specs.List.{AllByRecursion}
 use Rattle.std.specs.Vec.Iter.{into_iter_items}
 use Rattle.std.proofs.lemmas.List.{nil_from_length}
 use Rattle.moka_parts.specs.Settling.{IsValid}
-use Rattle.moka_parts.specs.Hashing.{key_hash}
+use Rattle.moka_records.specs.Hashing.{key_hash}
 use Rattle.moka_cache.specs.Saved.{AddsOnly, IsRestored, IsRoomyFor, TakesOnlyExpired, has_expired}
 use Rattle.moka_cache.proofs.Alike.{itself, then}
 use Rattle.moka_cache.proofs.Lasting.{keeps_itself, keeps_then}

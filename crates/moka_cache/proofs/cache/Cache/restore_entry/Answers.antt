@@ -1,9 +1,9 @@
 use Rattle.std.proofs.Common.{◌≡◌, true, false, refl, ap, sym, subst, ◌∙◌, inl, inr, [], ◌∷◌}
 use Rattle.std.specs.FinMap.{empty, insert}
 use Rattle.std.proofs.lemmas.Result.{err_from_is_err_and}
-use Rattle.moka_parts.specs.declared.records.Operation.{Operation}
-use Rattle.moka_parts.specs.declared.records.Operation.TheVariants.{Upsert}
-use Rattle.moka_parts.specs.Hashing.{key_hash}
+use Rattle.moka_records.specs.declared.records.Operation.{Operation}
+use Rattle.moka_records.specs.declared.records.Operation.TheVariants.{Upsert}
+use Rattle.moka_records.specs.Hashing.{key_hash}
 use Rattle.moka_parts.specs.State.{is_disabled}
 use Rattle.moka_cache.specs.Saved.{TakesOnlyExpired}
 use Rattle.moka_cache.specs.Unsent.{HidesNoMore}

@@ -1,5 +1,5 @@
 use Rattle.std.proofs.Common.{ℕ, rules, Some, None, Ok, Err}
-use Rattle.moka_parts.specs.Hashing.{key_hash}
+use Rattle.moka_records.specs.Hashing.{key_hash}
 use Rattle.moka_cache.proofs.Getting.{failed, got_refused, got_value, made_and_handed_out}
 use Rattle.moka_cache.proofs.cache.Cache.try_get_with.Goals as goal
 

@@ -1,6 +1,6 @@
 use Rattle.std.proofs.Common.{ℕ, ◌∙◌, refl, rules, sym, subst, Some, Ok, Err}
 use Rattle.std.proofs.lemmas.Result.{err_from_is_err_and}
-use Rattle.moka_parts.specs.Hashing.{key_hash}
+use Rattle.moka_records.specs.Hashing.{key_hash}
 use Rattle.moka_cache.proofs.Computing.{upserted}
 use Rattle.moka_cache.proofs.cache.Cache.upsert_with.Goals as goal
 

@@ -1,8 +1,8 @@
 use Rattle.std.proofs.Common.{refl, option_map, ap, sym, ◌∙◌}
-use Rattle.moka_parts.specs.declared.records.ReadOperation.TheVariants.{Hit}
-use Rattle.moka_parts.specs.declared.records.Record.{Record}
-use Rattle.moka_parts.specs.KeyTests.{record_by}
-use Rattle.moka_parts.proofs.Tested.{record_by_found, record_by_key}
+use Rattle.moka_records.specs.declared.records.ReadOperation.TheVariants.{Hit}
+use Rattle.moka_records.specs.declared.records.Record.{Record}
+use Rattle.moka_records.specs.KeyTests.{record_by}
+use Rattle.moka_records.proofs.Tested.{record_by_found, record_by_key}
 use Rattle.moka_engine.proofs.GetSteps.{whole-queued}
 use Rattle.moka_engine.proofs.HitSteps.{number_found, known_after}
 use Rattle.moka_engine.proofs.KeeperSteps.{read_follows}

@@ -1,5 +1,5 @@
 use Rattle.std.proofs.Common.{refl}
-use Rattle.moka_parts.specs.declared.records.ReadOperation.TheVariants.{Miss}
+use Rattle.moka_records.specs.declared.records.ReadOperation.TheVariants.{Miss}
 use Rattle.moka_engine.proofs.GetSteps.{whole-queued}
 use Rattle.moka_engine.proofs.KeeperSteps.{read_follows}
 use Rattle.moka_engine.proofs.base_cache.BaseCache.record_miss.Goals as goal

@@ -1,7 +1,7 @@
 use Rattle.std.proofs.Common.{◌≡◌, true≢false, refl, None, option_map, ap, sym, ◌∙◌, min, if◌then◌else◌}
 use Rattle.std.specs.Duration.{as_nanos}
 use Rattle.moka_parts.specs.Maintenance.{is_over}
-use Rattle.moka_parts.specs.Time.{greatest}
+use Rattle.moka_records.specs.Time.{greatest}
 use Rattle.moka_engine.proofs.IdleRuns.{idle_answer}
 use Rattle.moka_engine.proofs.RunSteps.{run_keeps_whole, run_ends_exact, cache_runs, disabled_cache_runs, disabled_exact}
 use Rattle.moka_engine.proofs.base_cache.BaseCache.run_pending_tasks.Given.{Over}

@@ -1,22 +1,22 @@
 use Rattle.std.proofs.Common.{Some, None, Ok, Err, refl}
-use Rattle.moka_parts.specs.Records.{record_of_key}
+use Rattle.moka_records.specs.Records.{record_of_key}
 use Rattle.moka_engine.proofs.PeekSteps.{scan_misses, scan_hits, scan_refused}
 use Rattle.moka_engine.proofs.base_cache.BaseCache.scanning_get.Goals as goal
 
 pub returns-in_default : goal.returns-in_default
 returns-in_default g c =
     let m = c.moments-moments.ensures in
-    let found = rw (m.policy, m.valid_after, m.now, ← c.self.view_is) at c.in_default.ensures in
+    let found = rw (c.store.ensures, m.policy, m.valid_after, m.now, ← c.self.view_is) at c.in_default.ensures in
     (Ok None, scan_misses g.P.PredicateFn.says c.self.view_is c.self.inside.inner.kept (λ records. record_of_key g.K.PartialEq.eq records c.args.key.now) c.args.now.0 found, refl)
 
 pub returns-in-Err : goal.returns-in-Err
 returns-in-Err g c =
     let m = c.moments-moments.ensures in
-    let found = rw (m.policy, m.valid_after, m.now, ← c.self.view_is) at c.in-Some.ensures in
+    let found = rw (c.store.ensures, m.policy, m.valid_after, m.now, ← c.self.view_is) at c.in-Some.ensures in
     (Err (record {}), scan_refused g.P.PredicateFn.says c.self.view_is c.self.inside.inner.kept (λ records. record_of_key g.K.PartialEq.eq records c.args.key.now) c.args.now.0 c.in-Some.field-0-0 c.in-Some.found found (record {}), refl)
 
 pub returns-in-Ok : goal.returns-in-Ok
 returns-in-Ok g c =
     let m = c.moments-moments.ensures in
-    let found = rw (m.policy, m.valid_after, m.now, ← c.self.view_is) at c.in-Some.ensures in
+    let found = rw (c.store.ensures, m.policy, m.valid_after, m.now, ← c.self.view_is) at c.in-Some.ensures in
     (Ok (Some c.in-Some.found.value), scan_hits g.P.PredicateFn.says c.self.view_is c.self.inside.inner.kept (λ records. record_of_key g.K.PartialEq.eq records c.args.key.now) c.args.now.0 c.in-Some.field-0-0 c.in-Some.found found, rw c.value.ensures at c.in-Ok.ensures.cases)

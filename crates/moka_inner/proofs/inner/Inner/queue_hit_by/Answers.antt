@@ -1,6 +1,6 @@
 use Rattle.std.proofs.Common.{◌≡◌, Some, ap, sym, subst, ◌∙◌, ◌+◌}
 use Rattle.std.specs.FinMap as finite
-use Rattle.moka_parts.proofs.Tested.{record_by_key}
+use Rattle.moka_records.proofs.Tested.{record_by_key}
 use Rattle.moka_inner.specs.Interior.{Interior, IsLocated}
 use Rattle.moka_inner.specs.ReadNumber.{IsReadNumber}
 use Rattle.moka_inner.proofs.InnerLemmas.{located-nowhere}

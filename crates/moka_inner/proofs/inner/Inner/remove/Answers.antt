@@ -1,6 +1,6 @@
 use Rattle.std.proofs.Common.{◌+◌, refl, ap, ◌∙◌, arith}
 use Rattle.std.specs.FinMap as finite
-use Rattle.moka_parts.specs.declared.records.Operation.TheVariants.{Removal}
+use Rattle.moka_records.specs.declared.records.Operation.TheVariants.{Removal}
 use Rattle.moka_store.specs.Store.{Kept}
 use Rattle.moka_inner.specs.Interior.{Interior}
 use Rattle.moka_store.proofs.Gets.{len-some, some_is}

@@ -1,7 +1,7 @@
 use Rattle.std.proofs.Common.{◌≡◌, ◌+◌, length, Option, Some, None, is_some, option_map, true, refl, sym, ◌∙◌, arith, rules}
 use Rattle.std.specs.FinMap.{get}
 use Rattle.std.proofs.lemmas.List.{length-map, map-append}
-use Rattle.moka_parts.proofs.Values.{remove_absent}
+use Rattle.moka_records.proofs.Values.{remove_absent}
 use Rattle.moka_store.proofs.Gets.{none_by_test}
 use Rattle.moka_maintenance.specs.declared.queued.PlacedWrite.{PlacedWrite}
 use Rattle.moka_inner.proofs.InnerLemmas.{inner-sent, inner-unsent}

@@ -1,9 +1,9 @@
 use Rattle.std.proofs.Common.{◌≡◌, ◌+◌, refl, ap, sym, ◌∙◌, arith}
 use Rattle.std.specs.FinMap as finite
 use Rattle.std.proofs.lemmas.Option.{same_Some}
-use Rattle.moka_parts.specs.declared.records.Operation.TheVariants.{Upsert}
+use Rattle.moka_records.specs.declared.records.Operation.TheVariants.{Upsert}
 use Rattle.moka_store.specs.Store.{Kept}
-use Rattle.moka_store.specs.Updates.{updated}
+use Rattle.moka_table.specs.Updates.{updated}
 use Rattle.moka_inner.specs.Interior.{Interior}
 use Rattle.moka_inner.proofs.InnerLemmas.{inner-updated}
 use Rattle.moka_inner.proofs.ValuesLemmas.{map_values-insert}

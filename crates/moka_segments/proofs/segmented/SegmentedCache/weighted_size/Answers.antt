@@ -1,5 +1,5 @@
 use Rattle.std.proofs.Common.{refl, ap, ◌∙◌}
-use Rattle.moka_parts.specs.Time.{plus}
+use Rattle.moka_records.specs.Time.{plus}
 use Rattle.moka_segments.specs.Whole.{total}
 use Rattle.moka_segments.proofs.Sums.{at_end, total_next}
 use Rattle.moka_segments.proofs.segmented.SegmentedCache.weighted_size.Goals as goal

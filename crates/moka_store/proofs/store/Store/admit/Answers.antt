@@ -2,7 +2,7 @@ use Rattle.std.specs.FinMap as finite
 use Rattle.std.proofs.Common.{◌<◌, ◌^◌, ◌≡◌, ◌+◌, map, length, refl, arith, sym, ap, ◌∙◌, subst}
 use Rattle.moka_store.proofs.Members.{counted-admitted}
 use Rattle.std.specs.Option.{option_map, option_and_then}
-use Rattle.moka_store.specs.declared.table.membership.Membership.{Membership}
+use Rattle.moka_table.specs.declared.table.membership.Membership.{Membership}
 use Rattle.moka_store.specs.StoreRows.{access_in, written_in, member_at}
 use Rattle.moka_store.proofs.Slots.{slots-below}
 use Rattle.moka_store.proofs.Orders.{enters}
@@ -11,7 +11,7 @@ use Rattle.moka_store.proofs.Steps.{placed, unlisted, admitted}
 use Rattle.moka_store.specs.Listing.{Listing}
 use Rattle.moka_store.specs.Weights.{IsWeighed}
 use Rattle.moka_store.proofs.Weights.{weighed-pushed, weighed-fits}
-use Rattle.moka_parts.specs.Records.{counted_of}
+use Rattle.moka_records.specs.Records.{counted_of}
 use Rattle.std.proofs.lemmas.List.{length-map}
 use Rattle.moka_store.specs.StoreTies.{AreNarrow}
 use Rattle.moka_store.proofs.store.Store.admit.Goals as goal

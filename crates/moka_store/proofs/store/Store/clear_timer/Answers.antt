@@ -1,8 +1,8 @@
 use Rattle.std.specs.FinMap as finite
 use Rattle.std.specs.Option.{option_and_then}
 use Rattle.std.proofs.Common.{None, refl, sym, ◌∙◌, ap, subst}
-use Rattle.moka_store.specs.RecordTable.{Row}
-use Rattle.moka_parts.specs.declared.records.Record.{Record}
+use Rattle.moka_table.specs.RecordTable.{Row}
+use Rattle.moka_records.specs.declared.records.Record.{Record}
 use Rattle.moka_store.proofs.Orders.{untimes}
 use Rattle.moka_store.proofs.Steps.{placed, retimed}
 use Rattle.moka_store.proofs.Timed.{timer-held}

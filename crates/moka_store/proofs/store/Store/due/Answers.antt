@@ -1,7 +1,7 @@
 use Rattle.std.specs.FinMap as finite
 use Rattle.std.proofs.Common.{true, Some, None, refl, sym, ap, ◌∙◌, subst}
 use Rattle.moka_store.proofs.Orders.{untimes, counted-member}
-use Rattle.moka_store.proofs.TableCalls.{get-places}
+use Rattle.moka_table.proofs.TableCalls.{get-places}
 use Rattle.moka_store.proofs.Steps.{retimed}
 use Rattle.moka_store.proofs.Timed.{all-ahead, timer-row}
 use Rattle.moka_store.proofs.Fitting.{still_fit}

@@ -1,6 +1,6 @@
 use Rattle.std.proofs.Common.{◌≡◌, IsSome, is_some, true, subst}
 use Rattle.std.specs.FinMap.{get}
-use Rattle.moka_store.specs.RecordTable.{records_of}
+use Rattle.moka_table.specs.RecordTable.{records_of}
 use Rattle.moka_store.proofs.Steps.{one-each}
 use Rattle.moka_store.proofs.store.Store.find.Goals as goal
 

@@ -2,10 +2,10 @@ use Rattle.std.specs.FinMap as finite
 use Rattle.std.proofs.lemmas.Grind.{common_steps}
 use Rattle.std.proofs.Common.{None, refl, ap, ◌∙◌, arith, sym, subst}
 use Rattle.std.specs.FinMap.{get}
-use Rattle.moka_index.proofs.Maps.{get-past_remove}
+use Rattle.moka_links.proofs.FinMaps.{get-past_remove}
 use Rattle.std.specs.Option.{option_and_then}
-use Rattle.moka_store.specs.RecordTable.{Row}
-use Rattle.moka_parts.specs.declared.records.Record.{Record}
+use Rattle.moka_table.specs.RecordTable.{Row}
+use Rattle.moka_records.specs.declared.records.Record.{Record}
 use Rattle.moka_store.proofs.Orders.{stays-bare}
 use Rattle.moka_store.proofs.Gets.{after_remove}
 use Rattle.moka_store.proofs.Steps.{placed, bare-row, forgotten}

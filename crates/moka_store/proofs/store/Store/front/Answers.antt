@@ -3,7 +3,7 @@ use Rattle.std.specs.Option.{option_map}
 use Rattle.moka_store.proofs.Nodes.{get-map}
 use Rattle.moka_store.proofs.Steps.{node-member}
 use Rattle.moka_store.specs.StoreRows.{member_at}
-use Rattle.moka_parts.specs.declared.records.Member.{Member}
+use Rattle.moka_records.specs.declared.records.Member.{Member}
 use Rattle.moka_store.proofs.store.Store.front.Goals as goal
 
 pub member_at-requires : goal.member_at-requires

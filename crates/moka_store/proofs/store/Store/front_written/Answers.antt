@@ -1,6 +1,6 @@
 use Rattle.std.proofs.Common.{ℕ, Some, refl, sym, ap, ◌∙◌}
 use Rattle.std.specs.Option.{option_map}
-use Rattle.moka_store.specs.RecordTable.{number_at}
+use Rattle.moka_table.specs.RecordTable.{number_at}
 use Rattle.moka_store.proofs.Orders.{written-place, written-handle}
 use Rattle.moka_store.proofs.Written.{number-front}
 use Rattle.moka_store.proofs.store.Store.front_written.Goals as goal

@@ -2,10 +2,10 @@ use Rattle.std.proofs.Common.{◌≡◌, ◌==◌, true, Some, None, sym, ap, �
 use Rattle.std.proofs.lemmas.Bool.{eq-eqb, eqb-true}
 use Rattle.std.specs.FinMap as finite
 use Rattle.std.specs.Option.{option_eq, option_map}
-use Rattle.moka_parts.specs.declared.records.Record.{Record}
-use Rattle.moka_store.specs.RecordTable.{Row, row_at, places_of}
-use Rattle.moka_store.proofs.TableCalls.{get-places, placed_row}
-use Rattle.moka_store.proofs.TableMaps.{made-of}
+use Rattle.moka_records.specs.declared.records.Record.{Record}
+use Rattle.moka_table.specs.RecordTable.{Row, row_at, places_of}
+use Rattle.moka_table.proofs.TableCalls.{get-places, placed_row}
+use Rattle.moka_table.proofs.TableMaps.{made-of}
 use Rattle.moka_store.proofs.Places.{record-placed, member-placed, other-row}
 use Rattle.moka_store.proofs.store.Store.has_row.Goals as goal
 

@@ -1,12 +1,12 @@
 use Rattle.moka_store.proofs.Orders.{stays-bare}
 use Rattle.std.specs.Option.{option_and_then}
-use Rattle.moka_store.specs.RecordTable.{Row, records_of, places_of}
-use Rattle.moka_parts.specs.declared.records.Record.{Record}
+use Rattle.moka_table.specs.RecordTable.{Row, records_of, places_of}
+use Rattle.moka_records.specs.declared.records.Record.{Record}
 use Rattle.std.specs.FinMap as finite
 use Rattle.std.proofs.Common.{◌≢◌, ◌+◌, inl, inr, refl, sym, ap, ◌∙◌, arith, subst}
 use Rattle.std.specs.FinMap.{get}
-use Rattle.moka_index.proofs.Maps.{get-inserted, get-past_insert}
-use Rattle.moka_store.proofs.TableMaps.{row_at-within}
+use Rattle.moka_links.proofs.FinMaps.{get-inserted, get-past_insert}
+use Rattle.moka_table.proofs.TableMaps.{row_at-within}
 use Rattle.moka_store.proofs.Gets.{after_insert, len-inserted}
 use Rattle.moka_store.proofs.Ties.{counted-unplaced}
 use Rattle.moka_store.proofs.Places.{room-narrow, room-less}

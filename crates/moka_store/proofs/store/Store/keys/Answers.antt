@@ -2,7 +2,7 @@ use Rattle.std.proofs.Common.{[], ◌∷◌, ◌++◌, sym, subst, arith}
 use Rattle.std.specs.Prelude.{IsPermutation}
 use Rattle.std.proofs.lemmas.List.Elements.{AllZip-push}
 use Rattle.std.proofs.lemmas.List.Sorted.{IsPermutation-refl}
-use Rattle.moka_store.specs.RecordTable.{stored_at}
+use Rattle.moka_table.specs.RecordTable.{stored_at}
 use Rattle.moka_store.proofs.Listed.{listed-first, listed-none, listed-some, listed-all}
 use Rattle.moka_store.proofs.store.Store.keys.Goals as goal
 use Rattle.moka_store.proofs.store.Store.keys.Goals.{in-Some+in_ok-clone+in_ok-push, in_default}

@@ -1,6 +1,6 @@
 use Rattle.std.specs.FinMap as finite
 use Rattle.std.proofs.Common.{ℕ, ◌<◌, ◌^◌, ◌-◌, ◌==◌, cond, None, ◌≡◌, ◌+◌, IsSome, map, length, refl, sym, ◌∙◌, arith, ap, subst}
-use Rattle.moka_index.proofs.Maps.{get-removed}
+use Rattle.moka_links.proofs.FinMaps.{get-removed}
 use Rattle.moka_store.proofs.Members.{counted-without}
 use Rattle.moka_store.proofs.Orders.{leaves}
 use Rattle.moka_store.proofs.Fitting.{one_node_less, still_fit}
@@ -11,7 +11,7 @@ use Rattle.moka_store.specs.Store.{Kept, cursor_past}
 use Rattle.moka_store.specs.StoreRows.{member_at}
 use Rattle.moka_store.specs.Weights.{IsWeighed}
 use Rattle.moka_store.proofs.Weights.{weighed-without, weighed-least}
-use Rattle.moka_parts.specs.Records.{counted_of, without_member, without_number}
+use Rattle.moka_records.specs.Records.{counted_of, without_member, without_number}
 use Rattle.moka_store.specs.StoreTies.{AreNarrow}
 use Rattle.moka_store.proofs.store.Store.leave.Goals as goal
 

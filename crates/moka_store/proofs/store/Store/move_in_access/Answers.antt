@@ -1,5 +1,5 @@
 use Rattle.std.proofs.Common.{map, refl, sym, ◌∙◌, subst}
-use Rattle.moka_parts.proofs.AccessList.{counted-to_back}
+use Rattle.moka_records.proofs.AccessList.{counted-to_back}
 use Rattle.moka_store.proofs.Steps.{member-there, member-row, member-node, moved}
 use Rattle.moka_store.specs.StoreRows.{member_at}
 use Rattle.moka_store.specs.Weights.{IsWeighed}

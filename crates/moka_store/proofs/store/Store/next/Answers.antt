@@ -3,7 +3,7 @@ use Rattle.std.specs.Option.{option_map}
 use Rattle.moka_store.proofs.Ties.{after-row}
 use Rattle.moka_store.proofs.Steps.{node-member, member-there, member-row, member-node}
 use Rattle.moka_store.specs.StoreRows.{member_at}
-use Rattle.moka_parts.specs.declared.records.Member.{Member}
+use Rattle.moka_records.specs.declared.records.Member.{Member}
 use Rattle.moka_store.proofs.store.Store.next.Goals as goal
 
 pub unreachable-requires : goal.unreachable-requires

@@ -1,6 +1,6 @@
 use Rattle.std.proofs.Common.{arith}
-use Rattle.moka_store.proofs.TableMaps.{row_at-within}
-use Rattle.moka_store.proofs.TableCalls.{placed_row}
+use Rattle.moka_table.proofs.TableMaps.{row_at-within}
+use Rattle.moka_table.proofs.TableCalls.{placed_row}
 use Rattle.moka_store.proofs.Places.{record-placed}
 use Rattle.moka_store.proofs.store.Store.place_count.Goals as goal
 

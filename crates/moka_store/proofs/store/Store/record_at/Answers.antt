@@ -1,9 +1,9 @@
 use Rattle.std.proofs.Common.{sym, ap, ◌∙◌}
 use Rattle.std.specs.FinMap as finite
 use Rattle.std.specs.Option.{option_and_then}
-use Rattle.moka_store.specs.RecordTable.{Row, records_of}
-use Rattle.moka_store.proofs.TableCalls.{get-records, placed_row}
-use Rattle.moka_parts.specs.declared.records.Record.{Record}
+use Rattle.moka_table.specs.RecordTable.{Row, records_of}
+use Rattle.moka_table.proofs.TableCalls.{get-records, placed_row}
+use Rattle.moka_records.specs.declared.records.Record.{Record}
 use Rattle.moka_store.proofs.Places.{stored-own}
 use Rattle.moka_store.proofs.store.Store.record_at.Goals as goal
 

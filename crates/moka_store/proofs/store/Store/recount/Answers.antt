@@ -1,7 +1,7 @@
 use Rattle.std.specs.FinMap as finite
 use Rattle.std.proofs.Common.{◌<◌, ◌^◌, ◌-◌, ◌+◌, map, refl, sym, ◌∙◌, arith, ap, subst, Some, is_some}
 use Rattle.std.specs.Option.{option_and_then}
-use Rattle.moka_store.specs.declared.table.membership.Membership.{Membership}
+use Rattle.moka_table.specs.declared.table.membership.Membership.{Membership}
 use Rattle.moka_store.specs.Listing.{Listing}
 use Rattle.moka_store.proofs.Orders.{stays-row, moves}
 use Rattle.moka_store.proofs.Fitting.{few_enough, still_fit}
@@ -10,7 +10,7 @@ use Rattle.moka_store.proofs.Steps.{member-there, member-row, member-node, membe
 use Rattle.moka_store.specs.StoreRows.{member_at}
 use Rattle.moka_store.specs.Weights.{IsWeighed}
 use Rattle.moka_store.proofs.Weights.{weighed-recounted, weighed-least, weighed-fits}
-use Rattle.moka_parts.specs.Records.{counted_of}
+use Rattle.moka_records.specs.Records.{counted_of}
 use Rattle.std.proofs.lemmas.List.{length-map}
 use Rattle.moka_store.specs.StoreTies.{AreNarrow}
 use Rattle.moka_store.proofs.store.Store.recount.Goals as goal

@@ -1,6 +1,6 @@
 use Rattle.std.proofs.Common.{refl, ap, ◌∙◌}
 use Rattle.std.specs.Option.{option_map, option_and_then}
-use Rattle.moka_parts.specs.Records.{is_listed}
+use Rattle.moka_records.specs.Records.{is_listed}
 use Rattle.moka_store.proofs.Steps.{placed}
 use Rattle.moka_store.proofs.Written.{cursor-none, cursor-at}
 use Rattle.moka_store.specs.StoreRows.{written_in, written_of}

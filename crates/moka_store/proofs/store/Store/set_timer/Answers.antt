@@ -1,12 +1,12 @@
 use Rattle.std.specs.FinMap as finite
 use Rattle.std.specs.Option.{option_and_then}
 use Rattle.std.proofs.Common.{◌&&◌, map, is_some, refl, sym, ◌∙◌, ap, subst}
-use Rattle.moka_store.specs.RecordTable.{Row}
-use Rattle.moka_parts.specs.declared.records.Record.{Record}
-use Rattle.moka_parts.specs.Records.{counted_of}
-use Rattle.moka_parts.specs.Time.{moment_of}
-use Rattle.moka_parts.specs.declared.policy.Instant.{Instant}
-use Rattle.moka_parts.proofs.Options.{mapped_is_some}
+use Rattle.moka_table.specs.RecordTable.{Row}
+use Rattle.moka_records.specs.declared.records.Record.{Record}
+use Rattle.moka_records.specs.Records.{counted_of}
+use Rattle.moka_records.specs.Time.{moment_of}
+use Rattle.moka_records.specs.declared.instant.Instant.{Instant}
+use Rattle.moka_records.proofs.Options.{mapped_is_some}
 use Rattle.moka_store.proofs.Orders.{times, timer-room, member-of}
 use Rattle.moka_store.proofs.Fitting.{still_fit, timed_fit}
 use Rattle.moka_store.proofs.Steps.{handled, retimed}

@@ -1,7 +1,7 @@
 use Rattle.std.proofs.Common.{refl, sym}
-use Rattle.moka_parts.specs.declared.records.Record.{Record}
-use Rattle.moka_store.specs.RecordTable.{Row, row_at}
-use Rattle.moka_store.proofs.TableMaps.{read-of}
+use Rattle.moka_records.specs.declared.records.Record.{Record}
+use Rattle.moka_table.specs.RecordTable.{Row, row_at}
+use Rattle.moka_table.proofs.TableMaps.{read-of}
 use Rattle.moka_store.proofs.Ties.{access-of}
 use Rattle.moka_store.proofs.store.Store.slot_behind.Goals as goal
 

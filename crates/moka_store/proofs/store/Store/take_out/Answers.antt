@@ -1,8 +1,8 @@
 use Rattle.std.proofs.Common.{sym, ◌∙◌}
 use Rattle.moka_store.proofs.Gets.{none_by_test}
 use Rattle.moka_store.proofs.KnownOrders.{off-written, off-timers, off-cursor}
-use Rattle.moka_parts.proofs.AccessList.{absent_taken_out}
-use Rattle.moka_parts.specs.Records.{counted_of}
+use Rattle.moka_records.proofs.AccessList.{absent_taken_out}
+use Rattle.moka_records.specs.Records.{counted_of}
 use Rattle.moka_store.proofs.store.Store.take_out.Goals as goal
 use Rattle.moka_store.proofs.store.Store.take_out.Goals.{then-is_member, else-is_member}
 

@@ -2,8 +2,8 @@ use Rattle.moka_store.proofs.Orders.{stays-row}
 use Rattle.std.specs.FinMap as finite
 use Rattle.std.proofs.Common.{◌-◌, None, refl, sym, ap, ◌∙◌, arith, subst}
 use Rattle.std.specs.FinMap.{remove}
-use Rattle.moka_store.specs.RecordTable.{records_of}
-use Rattle.moka_index.proofs.Maps.{get-removed}
+use Rattle.moka_table.specs.RecordTable.{records_of}
+use Rattle.moka_links.proofs.FinMaps.{get-removed}
 use Rattle.moka_store.proofs.Gets.{len-removed}
 use Rattle.moka_store.proofs.Steps.{handled, index-of, taken}
 use Rattle.moka_store.proofs.Fitting.{still_fit}

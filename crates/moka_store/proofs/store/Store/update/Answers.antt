@@ -1,6 +1,6 @@
 use Rattle.std.proofs.Common.{refl, sym, ◌∙◌}
 use Rattle.moka_store.proofs.Steps.{handled_at, changed}
-use Rattle.moka_store.specs.Updates.{updated}
+use Rattle.moka_table.specs.Updates.{updated}
 use Rattle.moka_store.proofs.store.Store.update.Goals as goal
 
 pub update-requires : goal.update-requires

@@ -1,0 +1,2 @@
+pub mod FindSteps
+pub mod Passing

@@ -1,8 +1,0 @@
-use Rattle.std.proofs.Common.{arith}
-use Rattle.moka_store.proofs.ColdRows.{length-whole}
-use Rattle.moka_store.proofs.table.RecordTable.place_count.Goals as goal
-
-pub returns : goal.returns
-returns g c =
-    let many = length-whole c.self.inside.rows.rows c.self.inside.cold.items in
-    rw (← c.self.view_is) (omega (arith, many, c.len.ensures, c.self.invariant.beside))

@@ -1,0 +1,3 @@
+pub mod Kept
+pub mod Newest
+pub mod Tickets

@@ -1,0 +1,4 @@
+pub mod Kept
+pub mod Newest
+pub mod Pending
+pub mod Tickets
