@@ -2,10 +2,13 @@
 
 /// ```
 /// use ravulemis::{EvictionPolicy, sync::Cache};
+/// use std::hash::{BuildHasherDefault, DefaultHasher};
 ///
-/// // How many of five keys that are asked for again and again outlast a scan of a hundred others.
+/// // How many of five keys that are asked for again and again outlast a scan of a hundred others. Hashes that differ
+/// // from run to run would let one of the hundred in now and then.
 /// let kept = |policy| {
-///     let cache = Cache::builder().max_capacity(10).eviction_policy(policy).build();
+///     let builder = Cache::builder().max_capacity(10).eviction_policy(policy);
+///     let cache = builder.build_with_hasher(BuildHasherDefault::<DefaultHasher>::default());
 ///     for key in (0..20).map(|step| step % 5).chain(100..200) {
 ///         cache.get_with(key, || 'a');
 ///         cache.run_pending_tasks();

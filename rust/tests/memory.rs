@@ -42,7 +42,10 @@ static NOTING: Noting = Noting;
 fn an_entry_that_is_too_heavy_asks_for_no_more_memory() {
     let _alone = ALONE.lock().unwrap_or_else(PoisonError::into_inner);
     GREATEST.store(0, Ordering::Relaxed);
-    let cache = Cache::builder().max_capacity(1000).weigher(|_, weight| *weight).build();
+    let cache = Cache::<u32, _>::builder()
+        .max_capacity(1000)
+        .weigher(|_, weight| *weight)
+        .build();
     for key in 0..10 {
         cache.insert(key, 1);
     }
@@ -59,7 +62,7 @@ fn a_value_for_which_no_table_can_grow_leaves_at_once() {
     let _alone = ALONE.lock().unwrap_or_else(PoisonError::into_inner);
     let (sender, left) = mpsc::channel();
     let listener = move |key: Arc<u32>, value, cause| sender.send((*key, value, cause)).unwrap();
-    let cache = Cache::builder().shards(1).eviction_listener(listener).build();
+    let cache = Cache::<u32, _>::builder().shards(1).eviction_listener(listener).build();
     LIMIT.store(1 << 16, Ordering::Relaxed);
     let insert = |key, value| {
         cache.insert(key, value);
@@ -89,7 +92,7 @@ fn a_value_for_which_no_table_can_grow_leaves_at_once() {
 fn an_iterator_that_is_refused_memory_leaves_nothing_out() {
     const NAME: &str = "an_iterator_that_is_refused_memory_leaves_nothing_out";
     if env::var_os(NAME).is_some() {
-        let cache = Cache::builder().shards(1).build();
+        let cache = Cache::<u32, _>::builder().shards(1).build();
         (0..10_000).for_each(|key| cache.insert(key, key));
         LIMIT.store(1 << 16, Ordering::Relaxed);
         let count = cache.iter().count();
@@ -110,7 +113,7 @@ fn a_cache_that_a_panic_emptied_asks_for_no_initial_room() {
         assert_ne!(*value, 13, "a weigher that panics");
         1
     };
-    let cache = Cache::builder()
+    let cache = Cache::<u32, _>::builder()
         .shards(1)
         .initial_capacity(100_000)
         .weigher(weigher)

@@ -34,7 +34,7 @@ fn busy(lock: &Arc<Mutex<()>>, listen: impl Fn() + Send + Sync + 'static) -> Cac
         drop(seen.lock());
         listen();
     };
-    let cache = Cache::builder().shards(1).eviction_listener(listener).build();
+    let cache = Cache::<u32, _>::builder().shards(1).eviction_listener(listener).build();
     cache.insert(1, 0);
     let told = cache.clone();
     thread::spawn(move || told.insert(1, 1));
@@ -79,7 +79,7 @@ fn a_call_by_which_nothing_left_waits_for_no_listener() {
 fn a_call_lets_one_batch_go_where_there_is_a_listener() {
     let told = Arc::new(AtomicU32::new(0));
     let counts = Arc::clone(&told);
-    let cache = Cache::builder()
+    let cache = Cache::<u32, _>::builder()
         .shards(1)
         .eviction_listener(move |_, _, _| count(&counts))
         .build();
@@ -102,7 +102,7 @@ fn a_call_lets_one_batch_go_where_there_is_a_listener() {
 
 #[test]
 fn a_shard_exceeds_its_capacity_by_64_entries_at_most() {
-    let cache = Cache::builder().max_capacity(100).shards(1).build();
+    let cache = Cache::<u32, _>::builder().max_capacity(100).shards(1).build();
     let insert = |key| {
         cache.insert(key, key);
         cache.iter().count()
@@ -114,7 +114,7 @@ fn a_shard_exceeds_its_capacity_by_64_entries_at_most() {
 #[test]
 fn heavy_entries_exceed_no_capacity_where_there_is_a_listener() {
     for (policy, first) in [(EvictionPolicy::lru(), 50_000), (EvictionPolicy::tiny_lfu(), 0)] {
-        let cache = Cache::builder()
+        let cache = Cache::<u32, _>::builder()
             .max_capacity(500_000)
             .weigher(|_, weight: &u32| *weight)
             .eviction_policy(policy)
@@ -136,7 +136,7 @@ fn a_run_that_look_ups_or_removals_start_keeps_the_bound() {
     type Call = fn(&Cache<u32, u32>, u32) -> Option<u32>;
     let calls: [Call; 2] = [|cache, key| cache.get(&key), |cache, key| cache.remove(&key)];
     for call in calls {
-        let cache = Cache::builder()
+        let cache = Cache::<u32, _>::builder()
             .max_capacity(500_000)
             .weigher(|_, weight: &u32| *weight)
             .eviction_policy(EvictionPolicy::lru())
@@ -184,7 +184,7 @@ fn the_listener_is_told_between_the_runs_of_a_call() {
         let left = OWN.get().map_or(0, |cache| cache.entry_count());
         MOST.fetch_max(left.try_into().unwrap(), Ordering::SeqCst);
     };
-    let builder = Cache::builder().shards(1).support_invalidation_closures();
+    let builder = Cache::<u32, _>::builder().shards(1).support_invalidation_closures();
     let cache = OWN.get_or_init(|| builder.eviction_listener(listener).build());
     (0..2000).for_each(|key| cache.insert(key, key));
     cache.run_pending_tasks();
@@ -198,7 +198,7 @@ fn the_listener_is_told_between_the_runs_of_a_call() {
 fn a_predicate_that_is_refused_makes_no_run() {
     let told = Arc::new(AtomicU32::new(0));
     let counts = Arc::clone(&told);
-    let cache = Cache::builder()
+    let cache = Cache::<u32, _>::builder()
         .shards(1)
         .time_to_live(Duration::from_millis(1))
         .eviction_listener(move |_, _, _| count(&counts))
@@ -216,7 +216,7 @@ fn a_predicate_that_is_refused_makes_no_run() {
 fn a_panic_within_a_call_keeps_no_notice_back() {
     let told = Arc::new(AtomicU32::new(0));
     let counts = Arc::clone(&told);
-    let cache = Cache::builder()
+    let cache = Cache::<u32, _>::builder()
         .shards(1)
         .support_invalidation_closures()
         .eviction_listener(move |_, _, _| count(&counts))
@@ -275,7 +275,9 @@ fn what_leaves_is_dropped_without_a_lock() {
 fn what_has_expired_leaves_while_only_another_shard_is_called() {
     let told = Arc::new(AtomicU32::new(0));
     let counts = Arc::clone(&told);
-    let builder = Cache::builder().shards(4).time_to_live(Duration::from_millis(1));
+    let builder = Cache::<u32, _>::builder()
+        .shards(4)
+        .time_to_live(Duration::from_millis(1));
     let cache = builder.eviction_listener(move |_, _, _| count(&counts)).build();
     (0..100).for_each(|key| cache.insert(key, key));
     let start = Instant::now();
@@ -296,7 +298,9 @@ fn what_has_expired_leaves_while_only_another_shard_is_called() {
 fn many_leave_a_quiet_shard_by_each_visit() {
     let told = Arc::new(AtomicU32::new(0));
     let counts = Arc::clone(&told);
-    let builder = Cache::builder().shards(2).time_to_live(Duration::from_millis(500));
+    let builder = Cache::<u32, _>::builder()
+        .shards(2)
+        .time_to_live(Duration::from_millis(500));
     let cache = builder.eviction_listener(move |_, _, _| count(&counts)).build();
     (0..40_000).for_each(|key| cache.insert(key, key));
     let start = Instant::now();
@@ -309,7 +313,7 @@ fn many_leave_a_quiet_shard_by_each_visit() {
 
 #[test]
 fn what_was_invalidated_leaves_by_the_next_call_where_nothing_expires() {
-    let cache = Cache::builder().shards(1).build();
+    let cache = Cache::<u32, _>::builder().shards(1).build();
     (0..10).for_each(|key| cache.insert(key, Arc::new(key)));
     let value = cache.get(&1).unwrap();
     cache.invalidate_all();
@@ -325,7 +329,10 @@ fn what_was_invalidated_leaves_by_the_next_call_where_nothing_expires() {
 #[test]
 fn predicates_do_not_pile_up_where_nothing_else_is_called() {
     let asked = Arc::new(AtomicU32::new(0));
-    let cache = Cache::builder().shards(1).support_invalidation_closures().build();
+    let cache = Cache::<u32, _>::builder()
+        .shards(1)
+        .support_invalidation_closures()
+        .build();
     cache.insert(1, 1);
     for _ in 0..1000 {
         let counts = Arc::clone(&asked);
@@ -348,7 +355,7 @@ fn predicates_do_not_pile_up_where_nothing_else_is_called() {
 
 #[test]
 fn an_iterator_finds_what_was_taken_out_and_put_back() {
-    let cache = Cache::new(1000);
+    let cache = Cache::<u32, _>::new(1000);
     (0..500).for_each(|key| cache.insert(key, 'a'));
     let mut entries = cache.iter();
     assert!(entries.next().is_some());
@@ -364,7 +371,7 @@ fn causes_and_order_are_those_of_the_leaving() {
     let told: Arc<Mutex<Vec<_>>> = Arc::default();
     let list = Arc::clone(&told);
     let listener = move |key: Arc<u32>, value, cause| list.lock().unwrap().push((*key, value, cause));
-    let cache = Cache::builder().eviction_listener(listener).build();
+    let cache = Cache::<u32, _>::builder().eviction_listener(listener).build();
     cache.insert(1, 'a');
     cache.insert(1, 'b');
     cache.insert(2, 'c');

@@ -25,7 +25,7 @@ impl Clone for Fragile {
 #[test]
 fn a_clone_that_panics_empties_the_shard() {
     let breaks = Arc::new(AtomicBool::new(false));
-    let cache = sync::Cache::builder().max_capacity(100).shards(2).build();
+    let cache = sync::Cache::<u32, _>::builder().max_capacity(100).shards(2).build();
     for key in 0..50 {
         cache.insert(key, Fragile(key, Arc::clone(&breaks)));
     }
@@ -55,7 +55,7 @@ fn a_weigher_that_panics_empties_the_cache() {
             *value
         }
     };
-    let mut cache = unsync::Cache::builder().weigher(weigher).build();
+    let mut cache = unsync::Cache::<u32, _>::builder().weigher(weigher).build();
     cache.insert(1, 1);
     assert!(panics(|| cache.insert(2, 13)));
     assert_eq!(
@@ -94,7 +94,7 @@ impl Expiry<u32, u32> for Fearful {
 
 #[test]
 fn an_expiry_that_panics_empties_the_cache() {
-    let mut cache = unsync::Cache::builder().expire_after(Fearful).build();
+    let mut cache = unsync::Cache::<u32, _>::builder().expire_after(Fearful).build();
     cache.insert(1, 1);
     assert!(panics(|| cache.insert(2, 13)));
     assert_eq!((cache.contains_key(&1), cache.entry_count()), (false, 0));
@@ -108,7 +108,9 @@ fn an_expiry_that_panics_empties_the_cache() {
 
 #[test]
 fn a_predicate_that_panics_empties_the_cache() {
-    let mut cache = unsync::Cache::builder().support_invalidation_closures().build();
+    let mut cache = unsync::Cache::<u32, _>::builder()
+        .support_invalidation_closures()
+        .build();
     cache.insert(1, 'a');
     cache.insert(2, 'b');
     let predicate = |key: &u32, _: &char| {
@@ -125,7 +127,7 @@ fn a_predicate_that_panics_empties_the_cache() {
 
 #[test]
 fn a_predicate_that_panics_in_two_shards_ends_no_process() {
-    let builder = sync::Cache::builder().time_to_live(Duration::from_secs(60));
+    let builder = sync::Cache::<u32, _>::builder().time_to_live(Duration::from_secs(60));
     let cache = builder.shards(16).support_invalidation_closures().build();
     for key in 0..1000 {
         cache.insert(key, 'a');
@@ -154,7 +156,7 @@ impl Drop for Brittle {
 
 #[test]
 fn a_drop_that_panics_changes_nothing() {
-    let mut cache = unsync::Cache::new(100);
+    let mut cache = unsync::Cache::<u32, _>::new(100);
     cache.insert(1, Brittle(13));
     cache.insert(2, Brittle(2));
     assert!(panics(|| cache.insert(1, Brittle(1))));
@@ -236,7 +238,7 @@ fn a_hash_that_panics_keeps_no_making_from_ending() {
 
 #[test]
 fn a_maker_that_panics_harms_nobody() {
-    let (cache, calls) = (sync::Cache::new(100), AtomicU32::new(0));
+    let (cache, calls) = (sync::Cache::<u32, _>::new(100), AtomicU32::new(0));
     let values = thread::scope(|scope| {
         let ask = || {
             cache.get_with(1, || {
@@ -259,7 +261,7 @@ fn a_maker_that_panics_harms_nobody() {
 
 #[test]
 fn a_maker_that_panics_changes_nothing() {
-    let mut cache = unsync::Cache::new(100);
+    let mut cache = unsync::Cache::<u32, _>::new(100);
     cache.insert(1, 'a');
     assert!(panics(|| cache.get_with(2, || panic!("a maker that panics"))));
     assert!(panics(|| cache
@@ -272,7 +274,7 @@ fn a_maker_that_panics_changes_nothing() {
 #[test]
 fn what_was_counted_outlives_a_panic() {
     let breaks = Arc::new(AtomicBool::new(false));
-    let mut cache = unsync::Cache::new(100);
+    let mut cache = unsync::Cache::<u32, _>::new(100);
     cache.get_with(1, || Fragile(1, Arc::clone(&breaks)));
     cache.get(&1);
     breaks.store(true, Ordering::SeqCst);
@@ -284,7 +286,7 @@ fn what_was_counted_outlives_a_panic() {
 
 #[test]
 fn an_upsert_that_panics_changes_nothing() {
-    let cache = sync::Cache::new(100);
+    let cache = sync::Cache::<u32, _>::new(100);
     cache.insert(1, 'a');
     assert!(panics(|| cache
         .entry(1)
@@ -302,7 +304,7 @@ fn an_upsert_that_panics_changes_nothing() {
 fn a_listener_that_panics_is_told_no_more() {
     let told = Arc::new(AtomicU32::new(0));
     let counts = Arc::clone(&told);
-    let cache = sync::Cache::builder()
+    let cache = sync::Cache::<u32, _>::builder()
         .max_capacity(100)
         .shards(8)
         .eviction_listener(move |_, _, _| {

@@ -15,7 +15,7 @@ type Left = Receiver<(u32, String, RemovalCause)>;
 /// A cache of texts in order of use, and what leaves it.
 fn watched(max_capacity: u64) -> (Cache<u32, String>, Left) {
     let (sender, left) = mpsc::channel();
-    let cache = Cache::builder()
+    let cache = Cache::<u32, _>::builder()
         .max_capacity(max_capacity)
         .eviction_policy(EvictionPolicy::lru())
         .eviction_listener(move |key, value, cause| sender.send((*key, value, cause)).unwrap())
@@ -91,7 +91,7 @@ fn tells_each_value_once_with_its_cause() {
 
 #[test]
 fn bounds_by_weight() {
-    let mut cache = Cache::builder()
+    let mut cache = Cache::<u32, _>::builder()
         .max_capacity(10)
         .eviction_policy(EvictionPolicy::lru())
         .weigher(|_: &u32, text: &String| text.len() as u32)
@@ -113,7 +113,7 @@ const LONGER: Duration = Duration::from_millis(2100);
 
 #[test]
 fn lets_entries_expire() {
-    let mut cache = Cache::builder().time_to_live(LONG).build();
+    let mut cache = Cache::<u32, _>::builder().time_to_live(LONG).build();
     cache.insert(1, 1);
     assert_eq!(cache.get(&1), Some(1));
     sleep(LONGER);
@@ -122,7 +122,7 @@ fn lets_entries_expire() {
 
 #[test]
 fn hands_out_what_has_expired() {
-    let mut cache = Cache::builder().time_to_live(LONG).build();
+    let mut cache = Cache::<u32, _>::builder().time_to_live(LONG).build();
     cache.insert(1, 1);
     sleep(LONGER);
     assert!(!cache.contains_key(&1));
@@ -131,7 +131,7 @@ fn hands_out_what_has_expired() {
 
 #[test]
 fn a_slow_maker_takes_nothing_of_the_time_to_live() {
-    let mut cache = Cache::builder().time_to_live(LONG).build();
+    let mut cache = Cache::<u32, _>::builder().time_to_live(LONG).build();
     let make = || {
         sleep(LONGER);
         1
@@ -142,7 +142,7 @@ fn a_slow_maker_takes_nothing_of_the_time_to_live() {
 
 #[test]
 fn a_read_keeps_an_entry_from_idling_out() {
-    let mut cache = Cache::builder().time_to_idle(LONG).build();
+    let mut cache = Cache::<u32, _>::builder().time_to_idle(LONG).build();
     cache.insert(1, 1);
     for _ in 0..4 {
         sleep(Duration::from_millis(600));
@@ -169,7 +169,7 @@ impl Expiry<u32, u64> for Hours {
 
 #[test]
 fn entries_expire_by_themselves() {
-    let mut cache = Cache::builder().expire_after(Hours).build();
+    let mut cache = Cache::<u32, _>::builder().expire_after(Hours).build();
     cache.insert(1, 1);
     cache.insert(2, 0);
     assert_eq!((cache.get(&1), cache.get(&2)), (Some(1), None));
@@ -182,7 +182,7 @@ fn entries_expire_by_themselves() {
 #[test]
 fn an_expiry_may_be_shared() {
     let expiry: Arc<dyn Expiry<u32, u64> + Send + Sync> = Arc::new(Hours);
-    let mut cache = Cache::builder().expire_after(expiry).build();
+    let mut cache = Cache::<u32, _>::builder().expire_after(expiry).build();
     cache.insert(1, 1);
     cache.insert(2, 0);
     assert_eq!((cache.get(&1), cache.get(&2)), (Some(1), None));
@@ -190,7 +190,7 @@ fn an_expiry_may_be_shared() {
 
 #[test]
 fn an_invalidation_hides_what_was_before_it_alone() {
-    let mut cache = Cache::builder().support_invalidation_closures().build();
+    let mut cache = Cache::<u32, _>::builder().support_invalidation_closures().build();
     for round in 0..200 {
         cache.insert(1, round);
         cache.invalidate_all();
@@ -215,7 +215,7 @@ fn predicates_are_refused_where_they_are_not_supported() {
 
 #[test]
 fn counts_loads() {
-    let mut cache = Cache::new(10);
+    let mut cache = Cache::<u32, _>::new(10);
     assert_eq!(cache.get_with(1, || 1), 1);
     assert_eq!(cache.try_get_with::<_, &str>(2, || Err("no")), Err("no"));
     assert_eq!(cache.optionally_get_with(1, || None), Some(1));
@@ -270,7 +270,7 @@ fn can_be_sent_to_a_thread() {
 #[test]
 fn a_panic_within_a_call_keeps_no_notice_back() {
     let (sender, told) = mpsc::channel();
-    let mut cache = Cache::builder()
+    let mut cache = Cache::<u32, _>::builder()
         .support_invalidation_closures()
         .eviction_listener(move |_, value, _| sender.send(value).unwrap())
         .build();

@@ -2,6 +2,7 @@ pub mod Unsent
 pub mod Keyed
 pub mod Visible
 pub mod Saved
+pub mod Each
 pub mod parts
 pub use Rattle.moka_calls.specs.Synchronous
 pub use Rattle.moka_calls.specs.Laws

@@ -18,14 +18,15 @@ ghost use Rattle.moka_records.specs.Hashing.{key_hash};
 ghost use Rattle.moka_cache.specs.Keyed.{Gets, Inserts, Removes};
 ghost use Rattle.moka_cache.specs.Unsent.{HoldsUnsent, HidesNoMore, IsThere, ShowsWrites};
 ghost use Rattle.moka_parts.specs.Counters.{after_look_up, after_load};
-ghost use Rattle.moka_calls.specs.Given.{Sees, if_made, without_error};
+ghost use Rattle.moka_calls.specs.Given.{Sees};
 ghost use Rattle.moka_cache.specs.Saved.{HasOnlyMembers, KeepsRecords, TakesOnlyExpired};
-ghost use Rattle.moka_calls.specs.Synchronous.{fresh, value_found, InsertsMade, HandsOutOwn, Makes, meaning_of, hears_clones, Just, own_run, Posts, InsertsEntry, GetsValue, RemovesEntry, removed, invalidated, taken_out, GetsWith, GetsWithIfMade, GetsWithIfNoError};
+ghost use Rattle.moka_calls.specs.Synchronous.{fresh, InsertsMade, HandsOutOwn, Makes, meaning_of, hears_clones, Just, own_run, Posts, InsertsEntry, GetsValue, RemovesEntry, removed, invalidated, taken_out, GetsWith, GetsWithIfMade, GetsWithIfNoError};
 
+use moka_calls::answers::{always_made, if_made, invalidated, removed, value_of};
 use moka_calls::error::{GetWithRefused, NotTold};
 use moka_engine::base_cache::BaseCache;
 use moka_engine::config::{CacheConfig, DefaultHasher};
-use moka_parts::calls::{Entry, Ticket};
+use moka_parts::calls::Ticket;
 use moka_parts::closures::{NoPredicate, NoWeigher, PredicateFn, Weigher};
 use moka_parts::error::{CapacityError, InsertError, InsertRefused, OutOfMemory, PredicateRefused};
 use moka_parts::housekeeper::{Clock, EVICTION_BATCH_SIZE, MAX_LOG_SYNC_REPEATS};
@@ -35,7 +36,6 @@ use moka_parts::notification::{Listener, NoListener};
 use moka_parts::policy::{Expiry, Instant, NoExpiry, Policy};
 use moka_parts::stats::Stats;
 use std::alloc::Global;
-use std::convert::Infallible;
 use std::hash::{BuildHasher, Hash};
 use std::marker::Model;
 
@@ -651,61 +651,5 @@ impl<
         ensures room { IfOk result (λ c. unwrap_or config.initial_capacity 0 ≤ c.engine.room) }
     {
         Cache::build_with_hasher(config, alloc, DefaultHasher::default(), now)
-    }
-}
-
-// The value of the entry that a get found.
-#[inline(always)]
-fn value_of<K: Drop, V>(
-    entry: Result<Option<Entry<K, V>>, OutOfMemory>,
-) -> Result<Option<V>, OutOfMemory>
-    ensures { result ≡ value_found entry }
-{
-    match entry? {
-        Some(entry) => Ok(Some(entry.into_value())),
-        None => Ok(None),
-    }
-}
-
-// What a maker that may decline answers, of one that fails in place of declining.
-#[inline(always)]
-pub(crate) fn if_made<A: Drop, E>(answer: Result<Result<A, ()>, E>) -> Result<Option<A>, E>
-    ensures { result ≡ if_made answer }
-{
-    Ok(answer?.ok())
-}
-
-// What a maker that never fails answers.
-#[inline(always)]
-pub(crate) fn always_made<A, E>(answer: Result<Result<A, Infallible>, E>) -> Result<A, E>
-    ensures { answer ≡ without_error result }
-{
-    match answer? {
-        Ok(made) => Ok(made),
-        Err(never) => match never {},
-    }
-}
-
-// What a removal answers: the value that was taken out, or, if the listener could not be notified, the error with
-// it.
-fn removed<V>(taken: Option<(V, Result<(), OutOfMemory>)>) -> Result<Option<V>, NotTold<V>>
-    ensures { result ≡ removed taken }
-{
-    let Some((value, told)) = taken else {
-        return Ok(None);
-    };
-    match told {
-        Ok(()) => Ok(Some(value)),
-        Err(error) => Err(NotTold { error, value }),
-    }
-}
-
-// What an invalidation answers: the same, but for a value that the listener was notified of.
-fn invalidated<V: Drop>(taken: Option<(V, Result<(), OutOfMemory>)>) -> Result<(), NotTold<V>>
-    ensures { result ≡ invalidated taken }
-{
-    match removed(taken) {
-        Ok(_) => Ok(()),
-        Err(refused) => Err(refused),
     }
 }

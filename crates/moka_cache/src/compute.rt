@@ -9,7 +9,7 @@ ghost use Rattle.moka_records.specs.Hashing.{key_hash};
 ghost use Rattle.moka_calls.specs.Synchronous.{InsertsMade, Makes, RemovesEntry, hears_clones, meaning_of};
 
 use crate::cache::{Cache, Put};
-use crate::entry::found;
+use moka_calls::answers::found;
 pub use moka_calls::compute::{CompResult, ComputeRefused, Op};
 use moka_calls::entry::CacheEntry;
 use moka_calls::error::{GetWithRefused, NotTold};

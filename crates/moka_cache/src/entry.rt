@@ -8,7 +8,8 @@ ghost use Rattle.moka_calls.specs.Entries.{entry_value, IsFresh, OrInserts, OrIn
 ghost use Rattle.moka_records.specs.Hashing.{key_hash};
 ghost use Rattle.moka_calls.specs.Synchronous.{Makes, meaning_of, InsertsMade, HandsOutOwn};
 
-use crate::cache::{Cache, Put, always_made, if_made};
+use crate::cache::{Cache, Put};
+use moka_calls::answers::{always_made, found, if_made};
 pub use moka_calls::entry::CacheEntry;
 use moka_calls::error::GetWithRefused;
 use moka_parts::closures::{PredicateFn, Weigher};
@@ -188,17 +189,5 @@ impl<
             is_fresh: true,
             is_old_value_replaced,
         })
-    }
-}
-
-// The entry of a value that is there.
-pub(crate) fn found<K, V>(key: K, value: V) -> CacheEntry<K, V>
-    ensures { result ≡ record { key = key; value = value; is_fresh = false; is_old_value_replaced = false } }
-{
-    CacheEntry {
-        key,
-        value,
-        is_fresh: false,
-        is_old_value_replaced: false,
     }
 }

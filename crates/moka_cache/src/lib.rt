@@ -3,6 +3,7 @@
 
 pub mod cache;
 pub mod compute;
+pub mod each;
 pub mod entry;
 pub mod entry_selector;
 pub mod iter;

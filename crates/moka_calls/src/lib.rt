@@ -2,6 +2,7 @@
 //! reference cache's steps, with the laws of lists of them. `moka_cache` makes the calls.
 #![tactic(auto)]
 
+pub mod answers;
 pub mod compute;
 pub mod entry;
 pub mod error;

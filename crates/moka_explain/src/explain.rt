@@ -86,6 +86,13 @@ pub struct Explained {
     pub answer: Answer,
 }
 
+// What a script sets for all its calls: whether runs start by themselves, and the policy.
+#[derive(Drop)]
+struct Set {
+    automatic: bool,
+    policy: EvictionPolicy,
+}
+
 /// Makes the calls of a script on a new cache, and prints each reply with what explains it.
 pub fn explain_script<W: Write>(alloc: Global, script: Script, out: &mut W) -> Result<()> {
     let Script {
@@ -103,9 +110,21 @@ pub fn explain_script<W: Write>(alloc: Global, script: Script, out: &mut W) -> R
         clock: ListedClock::new(clock),
     };
     let mut cache = new_cache(alloc, settings, rules, listener)?;
+    let set = Set { automatic, policy };
+    explain_calls(&mut outside, &mut cache, calls, set, out)
+}
+
+// Makes the calls one after the other, and prints each reply with what explains it.
+fn explain_calls<W: Write>(
+    outside: &mut Surroundings,
+    cache: &mut ScriptCache,
+    calls: Vec<ScriptCall>,
+    set: Set,
+    out: &mut W,
+) -> Result<()> {
     for call in calls {
-        let explained = explain_call(&mut outside, &mut cache, call, automatic)?;
-        write_explained(out, &explained, policy)?;
+        let explained = explain_call(outside, cache, call, set.automatic)?;
+        write_explained(out, &explained, set.policy)?;
     }
     Ok(())
 }

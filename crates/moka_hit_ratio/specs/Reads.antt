@@ -2,7 +2,7 @@
 use Rattle.std.specs.Prelude.{◌≡◌, ◌==◌, ◌<◌, ◌+◌, ◌-◌, ◌^◌, ℕ, Bool, false, MatchBool, if◌then◌else◌}
 use Rattle.moka_engine.specs.Calls.{ContainsStep}
 use Rattle.moka_engine.specs.State.{State}
-use Rattle.moka_traces.specs.declared.tally.Tally.{Tally}
+use Rattle.moka_hit_ratio.specs.declared.tally.Tally.{Tally}
 
 -- whether the cache holds the key, where no predicate covers anything
 abbrev pub IsKept : {V X P W : Type 0} → State ℕ V X P W → ℕ → Bool → Type 0

@@ -2,15 +2,15 @@
 ghost use Rattle.std.specs.Prelude.{◌≡◌, Bool, length, vec_len, Some, IfOk};
 ghost use Rattle.moka_hit_ratio.specs.Reads.{CountsIf, IsKept};
 ghost use Rattle.moka_engine.specs.parts.EvictionPolicy.TheVariants.{Lru, TinyLfu};
-ghost use Rattle.moka_traces.specs.Fifo.{is_kept};
+ghost use Rattle.moka_hit_ratio.specs.Fifo.{is_kept};
 
+use crate::fifo::Fifo;
+use crate::optimum;
 use crate::read_through::ReadThrough;
+use crate::row::Row;
+use crate::tally::Tally;
 use anyhow::Result;
 use moka_engine::{EvictionPolicy, OutOfMemory};
-use moka_traces::fifo::Fifo;
-use moka_traces::optimum;
-use moka_traces::row::Row;
-use moka_traces::tally::Tally;
 use std::alloc::Global;
 
 /// The caches of a capacity.

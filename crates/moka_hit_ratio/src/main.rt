@@ -1,16 +1,28 @@
 //! `moka-hit-ratio` plays traces through caches, and prints how often their keys were there.
 #![tactic(auto)]
 
+mod arguments;
 mod bench;
+mod chart;
+mod escape;
+mod fifo;
+mod line;
+mod optimum;
 mod play;
+mod ranks;
 mod read_through;
+mod row;
+mod scale;
+mod table;
+mod tally;
+mod trace;
 
+use crate::arguments::{HELP, Request};
+use crate::chart::draw_chart;
 use crate::play::play;
+use crate::row::Row;
+use crate::table::print_table;
 use anyhow::{Context, Result};
-use moka_traces::arguments::{HELP, Request};
-use moka_traces::chart::draw_chart;
-use moka_traces::row::Row;
-use moka_traces::table::print_table;
 use std::alloc::Global;
 use std::env;
 use std::fs::File;

@@ -1,10 +1,10 @@
 //! Traces played through the caches.
+use crate::arguments::{Origin, Request, named_trace};
 use crate::bench::Bench;
+use crate::line::{BadLine, Format, line_keys};
+use crate::row::Row;
+use crate::trace::Trace;
 use anyhow::{Context, Result, bail};
-use moka_traces::arguments::{Origin, Request, named_trace};
-use moka_traces::line::{BadLine, Format, line_keys};
-use moka_traces::row::Row;
-use moka_traces::trace::Trace;
 use std::fs::File;
 use std::io::{BufRead, BufReader, Read};
 use std::ops::Range;

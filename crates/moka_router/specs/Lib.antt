@@ -1,1 +1,2 @@
+pub mod Capacity
 pub mod Routing

@@ -1,6 +1,7 @@
-//! Which segment of a cache a key belongs to, and which part of a capacity is a segment's.
+//! Which segment of a cache a key belongs to, which part of a capacity is a segment's, and what two of them have.
 #![tactic(auto)]
 
+pub mod capacity;
 pub mod router;
 
 pub use router::Router;

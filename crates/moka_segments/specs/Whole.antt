@@ -1,19 +1,10 @@
 -- What a call that concerns all segments makes of them, and what it tells of their sum.
-use Rattle.std.specs.Prelude.{ℕ, ◌+◌, ◌≤◌, min, List, [], ◌∷◌, Option, Some, None, sum_by, ⊤}
+use Rattle.std.specs.Prelude.{ℕ, ◌≤◌, min, List, [], ◌∷◌, Option, Some, None, sum_by, ⊤}
 use Rattle.moka_records.specs.Time.{greatest, plus}
 use Rattle.moka_parts.specs.declared.stats.Stats.{Stats}
 use Rattle.moka_calls.specs.Synchronous.{Synchronous}
-pub use Rattle.moka_each.specs.Each.{Hides, Ran, AllRan}
-
--- the sum of two capacities, where both are set
-abbrev pub both : Option ℕ → Option ℕ → Option ℕ
-both (Some one) (Some other) = Some (one + other)
-both one other = None
-
--- a number that the program tells, saturating
-abbrev pub saturated : Option ℕ → Option ℕ
-saturated None = None
-saturated (Some n) = Some (min n greatest)
+pub use Rattle.moka_cache.specs.Each.{Hides, Ran, AllRan}
+pub use Rattle.moka_router.specs.Capacity.{both, saturated}
 
 -- what two count, each sum saturating
 abbrev pub both_stats : Stats → Stats → Stats

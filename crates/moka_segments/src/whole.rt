@@ -4,15 +4,16 @@ ghost use Rattle.std.specs.List.{AllZip};
 ghost use Rattle.moka_parts.specs.State.{limits_of};
 ghost use Rattle.moka_calls.specs.Synchronous.{meaning_of};
 ghost use Rattle.moka_segments.specs.Segmented.{Holds};
-ghost use Rattle.moka_segments.specs.Whole.{AllRan, Hides, IsWithinWhole, both, both_stats, saturated, total, total_stats, whole_capacity};
+ghost use Rattle.moka_segments.specs.Whole.{AllRan, Hides, IsWithinWhole, both_stats, saturated, total, total_stats, whole_capacity};
 
 use crate::segmented::SegmentedCache;
 use moka_cache::Stats;
-use moka_each::{invalidate_each, run_each};
+use moka_cache::each::{invalidate_each, run_each};
 use moka_parts::closures::{PredicateFn, Weigher};
 use moka_parts::housekeeper::Clock;
 use moka_parts::notification::Listener;
 use moka_parts::policy::{Expiry, Instant, Policy};
+use moka_router::capacity::both;
 use std::hash::{BuildHasher, Hash};
 
 impl<
@@ -125,15 +126,5 @@ fn both_stats(one: Stats, other: Stats) -> Stats
         hits: one.hits.saturating_add(other.hits),
         misses: one.misses.saturating_add(other.misses),
         loads: one.loads.saturating_add(other.loads),
-    }
-}
-
-// The sum of two capacities, saturating, if both are set.
-fn both(one: Option<u64>, other: Option<u64>) -> Option<u64>
-    ensures { result ≡ saturated (both one other) }
-{
-    match (one, other) {
-        (Some(one), Some(other)) => Some(one.saturating_add(other)),
-        _ => None,
     }
 }

@@ -5,7 +5,8 @@ use crate::report::{Left, Refused, Texts, Told, told_of};
 use crate::rounds::{Asked, ROUNDS, are_made, finish};
 use moka_cache::Stats;
 use moka_engine::{
-    FixedClock, IdSource, NoPredicate, NoTest, OutOfMemory, PredicateError, PredicateId, ValueTest,
+    Entry, FixedClock, IdSource, Instant, NoPredicate, NoTest, OutOfMemory, PredicateError,
+    PredicateId, ValueTest,
 };
 use std::io;
 use std::io::Write;
@@ -69,22 +70,34 @@ fn put(cache: &mut Texts, call: Call, words: Words) -> Result<bool, Refused> {
     }
 }
 
-/// The value of a key, unless the test of the call ignores it. The key comes with it where that is asked for, and only
-/// there.
+/// What is found under a key, unless the test of the call ignores it.
+fn look_up(
+    cache: &mut Texts,
+    key: &String,
+    ask: Ask,
+    need_key: bool,
+    now: Instant,
+) -> Result<Option<Entry<String, String>>, OutOfMemory> {
+    let clock = &mut FixedClock(now);
+    match ask {
+        Ask::Get | Ask::GetWithKey => cache.get_with_hash(key, HASH, need_key, now, clock),
+        _ => {
+            let mut test = Ignores(matches!(ask, Ask::Ignore));
+            cache.get_with_hash_and_ignore_if(key, HASH, Some(&mut test), need_key, now, clock)
+        }
+    }
+}
+
+/// The value of a key. The key comes with it where that is asked for, and only there.
 fn find(cache: &mut Texts, call: Call, words: Words) -> Result<Option<String>, OutOfMemory> {
-    let key = &words.text(call.key);
-    let (now, clock) = (words.now, &mut FixedClock(words.now));
+    let (key, now) = (&words.text(call.key), words.now);
     let need_key = !matches!(call.ask, Ask::Get);
     let found = match call.ask {
         Ask::Peek => {
             return cache.get_with_hash_without_recording(key, HASH, Some(&mut NoTest), now);
         }
         Ask::Scan => return cache.scanning_get(key, now),
-        Ask::Get | Ask::GetWithKey => cache.get_with_hash(key, HASH, need_key, now, clock),
-        _ => {
-            let mut test = Ignores(matches!(call.ask, Ask::Ignore));
-            cache.get_with_hash_and_ignore_if(key, HASH, Some(&mut test), need_key, now, clock)
-        }
+        _ => look_up(cache, key, call.ask, need_key, now),
     };
     match found {
         Ok(Some(entry)) => {

@@ -84,6 +84,30 @@ fn register(cache: &mut Segmented, call: Call, words: Words) -> Result<Option<St
     }
 }
 
+/// A call that is handed its key.
+fn ask_by_key(cache: &mut Segmented, call: Call, words: Words) -> Result<Option<String>, Refused> {
+    let key = words.text(call.key);
+    let (now, clock) = (words.now, &mut FixedClock(words.now));
+    match call.ask {
+        Ask::Insert => match cache.insert(key, words.text(call.value), now, clock) {
+            Ok(()) => Ok(None),
+            Err(refused) => Err(call.not_put(&refused, words)),
+        },
+        Ask::Remove => match cache.remove(&key, now, clock) {
+            Ok(removed) => Ok(removed),
+            Err(refused) => Err(call.not_told(&refused, words)),
+        },
+        Ask::Invalidate => match cache.invalidate(&key, now, clock) {
+            Ok(()) => Ok(None),
+            Err(refused) => Err(call.not_told(&refused, words)),
+        },
+        _ => match cache.get(&key, now, clock) {
+            Ok(found) => Ok(found),
+            Err(_) => Err(Refused::new(Left::Call, "", true)),
+        },
+    }
+}
+
 /// A call that makes the value if the key is not there.
 fn get_made(cache: &mut Segmented, call: Call, words: Words) -> Result<Option<String>, Refused> {
     let (key, made) = (words.text(call.key), words.text(call.value));
@@ -111,27 +135,10 @@ fn is_made(notes: &mut Notes, cache: &mut Segmented, words: Words) -> bool {
 
 impl Asked for Segmented {
     fn is_answered(&mut self, call: Call, words: Words) -> Result<bool, Refused> {
-        let key = words.text(call.key);
-        let (now, clock) = (words.now, &mut FixedClock(words.now));
         let answer = match call.ask {
-            Ask::Insert => match self.insert(key, words.text(call.value), now, clock) {
-                Ok(()) => Ok(None),
-                Err(refused) => Err(call.not_put(&refused, words)),
-            },
-            Ask::Remove => match self.remove(&key, now, clock) {
-                Ok(removed) => Ok(removed),
-                Err(refused) => Err(call.not_told(&refused, words)),
-            },
-            Ask::Invalidate => match self.invalidate(&key, now, clock) {
-                Ok(()) => Ok(None),
-                Err(refused) => Err(call.not_told(&refused, words)),
-            },
             Ask::GetWith | Ask::OptionallyGetWith | Ask::TryGetWith => get_made(self, call, words),
             Ask::Register => register(self, call, words),
-            _ => match self.get(&key, now, clock) {
-                Ok(found) => Ok(found),
-                Err(_) => Err(Refused::new(Left::Call, "", true)),
-            },
+            _ => ask_by_key(self, call, words),
         };
         match answer {
             Ok(answer) => Ok(words.is_found(call.expected(), answer)),

@@ -10,3 +10,10 @@ pub mod Covered
 pub mod Followed
 pub mod Batched
 pub mod Visited
+pub mod LookedUp
+pub mod Idle
+pub mod Named
+pub mod Among
+pub mod Limited
+pub mod LoggedOut
+pub mod Bound

@@ -10,3 +10,10 @@ pub mod Resized
 pub mod Asked
 pub mod Late
 pub mod Weighed
+pub mod ReadThrough
+pub mod Sessions
+pub mod Borrowed
+pub mod Restarted
+pub mod Logins
+pub mod Joined
+pub mod Shared

@@ -1,4 +1,4 @@
-//! Tests of the callers in `moka_uses`, `moka_timed_uses` and `moka_segment_uses`, and nothing else.
+//! Tests of the callers in `moka_uses`, and nothing else.
 #![tactic(auto)]
 
 #[cfg(test)]

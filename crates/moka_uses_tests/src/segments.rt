@@ -1,10 +1,10 @@
-//! Tests of `moka_segment_uses::shared`.
+//! Tests of `moka_uses::shared`.
 use moka_engine::{
     CacheConfig, DefaultHasher, FixedClock, Instant, NoExpiry, NoListener, NoPredicate, NoWeigher,
 };
 use moka_segment_laws::laws::none_belong;
-use moka_segment_uses::shared::{get_or_put, keep_bound, put_and_find, put_where_it_belongs};
 use moka_segments::SegmentedCache;
+use moka_uses::shared::{get_or_put, keep_bound, put_and_find, put_where_it_belongs};
 
 const NOW: Instant = Instant(0);
 

@@ -1,4 +1,4 @@
-//! Tests of the callers in `moka_timed_uses`.
+//! Tests of the callers in `moka_uses`.
 mod borrowed;
 mod logins;
 mod profiles;

@@ -18,5 +18,4 @@ pub mod moka_inner;
 pub mod moka_engine;
 pub mod moka_drive;
 pub mod moka_cache;
-pub mod moka_each;
 pub mod moka_segments;

@@ -6,6 +6,4 @@ pub mod moka_segment_laws;
 pub mod moka_workload;
 pub mod moka_cache_tests;
 pub mod moka_uses;
-pub mod moka_timed_uses;
-pub mod moka_segment_uses;
 pub mod moka_uses_tests;

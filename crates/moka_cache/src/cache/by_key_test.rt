@@ -9,7 +9,8 @@ ghost use Rattle.moka_records.specs.Hashing.{key_hash};
 ghost use Rattle.moka_cache.specs.Keyed.{GetsBy, RemovesBy};
 ghost use Rattle.moka_calls.specs.Synchronous.{Made, Makes, RemovesEntry, hears_clones, invalidated, meaning_of, removed, taken_out};
 
-use super::{Cache, invalidated, removed, value_of};
+use super::Cache;
+use moka_calls::answers::{invalidated, removed, value_of};
 use moka_calls::error::NotTold;
 use moka_parts::closures::{PredicateFn, Weigher};
 use moka_parts::error::OutOfMemory;

@@ -1,7 +1,7 @@
-//! Tests of `moka_timed_uses::borrowed`.
+//! Tests of `moka_uses::borrowed`.
 use moka_engine::Instant;
 use moka_timed::ManualClock;
-use moka_timed_uses::borrowed::{Prices, price, set, start};
+use moka_uses::borrowed::{Prices, price, set, start};
 use std::alloc::Global;
 use std::time::Duration;
 

@@ -1,8 +1,8 @@
-//! Tests of `moka_timed_uses::logins`.
+//! Tests of `moka_uses::logins`.
 use moka_engine::Instant;
 use moka_timed::ManualClock;
-use moka_timed_uses::logins::{Logins, Session, find, log_in, log_out, save, start};
 use moka_uses::invalidated::CountedIds;
+use moka_uses::logins::{Logins, Session, find, log_in, log_out, save, start};
 use std::alloc::Global;
 use std::time::Duration;
 

@@ -1,8 +1,8 @@
-//! Tests of `moka_timed_uses::profiles`.
+//! Tests of `moka_uses::profiles`.
 use crate::makers::twenty;
 use moka_engine::Instant;
 use moka_timed::ManualClock;
-use moka_timed_uses::profiles::{Profiles, profile, start};
+use moka_uses::profiles::{Profiles, profile, start};
 use std::time::Duration;
 
 fn ten() -> u64 {

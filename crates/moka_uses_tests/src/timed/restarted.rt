@@ -1,9 +1,9 @@
-//! Tests of `moka_timed_uses::restarted`.
+//! Tests of `moka_uses::restarted`.
 use super::sessions::{TestSessions, idle};
 use moka_engine::{Instant, OutOfMemory};
 use moka_timed::ManualClock;
-use moka_timed_uses::restarted::{hand_over, save, start_again, start_again_within};
-use moka_timed_uses::sessions::{log_in, touch};
+use moka_uses::restarted::{hand_over, save, start_again, start_again_within};
+use moka_uses::sessions::{log_in, touch};
 use std::alloc::Global;
 use std::time::Duration;
 

@@ -1,10 +1,10 @@
-//! Tests of `moka_timed_uses::joined` and `moka_timed_uses::sessions`, and of `moka_timed_uses::restarted` by a module
+//! Tests of `moka_uses::joined` and `moka_uses::sessions`, and of `moka_uses::restarted` by a module
 //! of that name.
 use super::restarted::{Way, goes_on, log_three_in};
 use moka_engine::Instant;
 use moka_timed::ManualClock;
-use moka_timed_uses::joined::put_and_find;
-use moka_timed_uses::sessions::{Sessions, log_in, log_out, start, touch};
+use moka_uses::joined::put_and_find;
+use moka_uses::sessions::{Sessions, log_in, log_out, start, touch};
 use std::alloc::Global;
 use std::time::Duration;
 

@@ -2,10 +2,11 @@
 //! The synchronous cache: put, get and remove in one call each. moka: `sync::cache`.
 use crate::support::prelude::*;
 
+use crate::engine::moka_calls::answers::{always_made, if_made, invalidated, removed, value_of};
 use crate::engine::moka_calls::error::{GetWithRefused, NotTold};
 use crate::engine::moka_engine::base_cache::BaseCache;
 use crate::engine::moka_engine::config::{CacheConfig, DefaultHasher};
-use crate::engine::moka_parts::calls::{Entry, Ticket};
+use crate::engine::moka_parts::calls::Ticket;
 use crate::engine::moka_parts::closures::{NoPredicate, NoWeigher, PredicateFn, Weigher};
 use crate::engine::moka_parts::error::{CapacityError, InsertError, InsertRefused, OutOfMemory, PredicateRefused};
 use crate::engine::moka_parts::housekeeper::{Clock, EVICTION_BATCH_SIZE, MAX_LOG_SYNC_REPEATS};
@@ -15,7 +16,6 @@ use crate::engine::moka_parts::notification::{Listener, NoListener};
 use crate::engine::moka_parts::policy::{Expiry, Instant, NoExpiry, Policy};
 use crate::engine::moka_parts::stats::Stats;
 use crate::support::alloc::Global;
-use std::convert::Infallible;
 use crate::support::hash::{BuildHasher, Hash};
 
 mod by_key_test;
@@ -442,56 +442,5 @@ impl<
     ) -> Result<Self, OutOfMemory>
     {
         Cache::build_with_hasher(config, alloc, DefaultHasher::default(), now)
-    }
-}
-
-// The value of the entry that a get found.
-#[inline(always)]
-fn value_of<K, V>(
-    entry: Result<Option<Entry<K, V>>, OutOfMemory>,
-) -> Result<Option<V>, OutOfMemory>
-{
-    match entry? {
-        Some(entry) => Ok(Some(entry.into_value())),
-        None => Ok(None),
-    }
-}
-
-// What a maker that may decline answers, of one that fails in place of declining.
-#[inline(always)]
-pub(crate) fn if_made<A, E>(answer: Result<Result<A, ()>, E>) -> Result<Option<A>, E>
-{
-    Ok(answer?.ok())
-}
-
-// What a maker that never fails answers.
-#[inline(always)]
-pub(crate) fn always_made<A, E>(answer: Result<Result<A, Infallible>, E>) -> Result<A, E>
-{
-    match answer? {
-        Ok(made) => Ok(made),
-        Err(never) => match never {},
-    }
-}
-
-// What a removal answers: the value that was taken out, or, if the listener could not be notified, the error with
-// it.
-fn removed<V>(taken: Option<(V, Result<(), OutOfMemory>)>) -> Result<Option<V>, NotTold<V>>
-{
-    let Some((value, told)) = taken else {
-        return Ok(None);
-    };
-    match told {
-        Ok(()) => Ok(Some(value)),
-        Err(error) => Err(NotTold { error, value }),
-    }
-}
-
-// What an invalidation answers: the same, but for a value that the listener was notified of.
-fn invalidated<V>(taken: Option<(V, Result<(), OutOfMemory>)>) -> Result<(), NotTold<V>>
-{
-    match removed(taken) {
-        Ok(_) => Ok(()),
-        Err(refused) => Err(refused),
     }
 }

@@ -3,7 +3,7 @@
 use crate::support::prelude::*;
 
 use crate::engine::moka_cache::cache::{Cache, Put};
-use crate::engine::moka_cache::entry::found;
+use crate::engine::moka_calls::answers::found;
 pub use crate::engine::moka_calls::compute::{CompResult, ComputeRefused, Op};
 use crate::engine::moka_calls::entry::CacheEntry;
 use crate::engine::moka_calls::error::{GetWithRefused, NotTold};

@@ -4,7 +4,8 @@
 //! `cache.entry(key).or_insert(value, ..)` is `cache.get_or_insert(key, value, ..)`, and so on: each call names moka's.
 use crate::support::prelude::*;
 
-use crate::engine::moka_cache::cache::{Cache, Put, always_made, if_made};
+use crate::engine::moka_cache::cache::{Cache, Put};
+use crate::engine::moka_calls::answers::{always_made, found, if_made};
 pub use crate::engine::moka_calls::entry::CacheEntry;
 use crate::engine::moka_calls::error::GetWithRefused;
 use crate::engine::moka_parts::closures::{PredicateFn, Weigher};
@@ -150,16 +151,5 @@ impl<
             is_fresh: true,
             is_old_value_replaced,
         })
-    }
-}
-
-// The entry of a value that is there.
-pub(crate) fn found<K, V>(key: K, value: V) -> CacheEntry<K, V>
-{
-    CacheEntry {
-        key,
-        value,
-        is_fresh: false,
-        is_old_value_replaced: false,
     }
 }

@@ -4,6 +4,7 @@ use crate::support::prelude::*;
 
 pub mod cache;
 pub mod compute;
+pub mod each;
 pub mod entry;
 pub mod entry_selector;
 pub mod iter;

@@ -3,6 +3,7 @@
 //! reference cache's steps, with the laws of lists of them. `moka_cache` makes the calls.
 use crate::support::prelude::*;
 
+pub mod answers;
 pub mod compute;
 pub mod entry;
 pub mod error;

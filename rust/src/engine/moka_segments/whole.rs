@@ -4,11 +4,12 @@ use crate::support::prelude::*;
 
 use crate::engine::moka_segments::segmented::SegmentedCache;
 use crate::engine::moka_cache::Stats;
-use crate::engine::moka_each::{invalidate_each, run_each};
+use crate::engine::moka_cache::each::{invalidate_each, run_each};
 use crate::engine::moka_parts::closures::{PredicateFn, Weigher};
 use crate::engine::moka_parts::housekeeper::Clock;
 use crate::engine::moka_parts::notification::Listener;
 use crate::engine::moka_parts::policy::{Expiry, Instant, Policy};
+use crate::engine::moka_router::capacity::both;
 use crate::support::hash::{BuildHasher, Hash};
 
 impl<
@@ -102,14 +103,5 @@ fn both_stats(one: Stats, other: Stats) -> Stats
         hits: one.hits.saturating_add(other.hits),
         misses: one.misses.saturating_add(other.misses),
         loads: one.loads.saturating_add(other.loads),
-    }
-}
-
-// The sum of two capacities, saturating, if both are set.
-fn both(one: Option<u64>, other: Option<u64>) -> Option<u64>
-{
-    match (one, other) {
-        (Some(one), Some(other)) => Some(one.saturating_add(other)),
-        _ => None,
     }
 }

@@ -2,7 +2,8 @@
 //! Look-ups and removals by a test of the key in place of a key.
 use crate::support::prelude::*;
 
-use super::{Cache, invalidated, removed, value_of};
+use super::Cache;
+use crate::engine::moka_calls::answers::{invalidated, removed, value_of};
 use crate::engine::moka_calls::error::NotTold;
 use crate::engine::moka_parts::closures::{PredicateFn, Weigher};
 use crate::engine::moka_parts::error::OutOfMemory;

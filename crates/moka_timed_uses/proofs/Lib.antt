@@ -1,6 +1,0 @@
-pub mod LookedUp
-pub mod Idle
-pub mod Named
-pub mod Among
-pub mod Limited
-pub mod LoggedOut

@@ -1,6 +1,0 @@
-pub mod ReadThrough
-pub mod Sessions
-pub mod Borrowed
-pub mod Restarted
-pub mod Logins
-pub mod Joined

@@ -1,5 +1,0 @@
-pub mod Fifo
-pub mod Line
-pub mod Optimum
-pub mod Ratios
-pub mod Rows
