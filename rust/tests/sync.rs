@@ -65,14 +65,14 @@ fn settings_leave_types_to_the_calls() {
         .time_to_live(Duration::from_secs(1800))
         .time_to_idle(Duration::from_secs(300))
         .build();
-    timed.insert(0u32, 'z');
-    assert_eq!(timed.get(&0), Some('z'));
+    timed.insert(0, "zero");
+    assert_eq!(timed.get(&0), Some("zero"));
     let policy = timed.policy();
     let times = (policy.time_to_live(), policy.time_to_idle());
     assert_eq!(times, (Some(Duration::from_secs(1800)), Some(Duration::from_secs(300))));
     let entries: Vec<_> = timed.iter().collect();
-    assert_eq!(entries, [(Arc::new(0), 'z')]);
-    let named: ravulemis::sync::Iter<'_, u32, char> = timed.iter();
+    assert_eq!(entries, [(Arc::new(0), "zero")]);
+    let named: ravulemis::sync::Iter<'_, i32, &str> = timed.iter();
     assert_eq!(named.count(), 1);
 }
 
@@ -85,7 +85,7 @@ fn shards_share_the_capacity() {
         let cache = builder.shards(shards).build();
         assert_eq!(cache.policy().num_segments(), shards);
         for key in 0..2 * capacity {
-            cache.insert(key, key);
+            cache.insert(key, ());
         }
         cache.run_pending_tasks();
         assert!(cache.entry_count() <= capacity);
