@@ -86,9 +86,9 @@ pub struct Explained {
     pub answer: Answer,
 }
 
-// What a script sets for all its calls: whether runs start by themselves, and the policy.
+// What a script chooses for all its calls: whether runs start by themselves, and the policy.
 #[derive(Drop)]
-struct Set {
+struct Choices {
     automatic: bool,
     policy: EvictionPolicy,
 }
@@ -110,8 +110,8 @@ pub fn explain_script<W: Write>(alloc: Global, script: Script, out: &mut W) -> R
         clock: ListedClock::new(clock),
     };
     let mut cache = new_cache(alloc, settings, rules, listener)?;
-    let set = Set { automatic, policy };
-    explain_calls(&mut outside, &mut cache, calls, set, out)
+    let choices = Choices { automatic, policy };
+    explain_calls(&mut outside, &mut cache, calls, choices, out)
 }
 
 // Makes the calls one after the other, and prints each reply with what explains it.
@@ -119,12 +119,12 @@ fn explain_calls<W: Write>(
     outside: &mut Surroundings,
     cache: &mut ScriptCache,
     calls: Vec<ScriptCall>,
-    set: Set,
+    choices: Choices,
     out: &mut W,
 ) -> Result<()> {
     for call in calls {
-        let explained = explain_call(outside, cache, call, set.automatic)?;
-        write_explained(out, &explained, set.policy)?;
+        let explained = explain_call(outside, cache, call, choices.automatic)?;
+        write_explained(out, &explained, choices.policy)?;
     }
     Ok(())
 }
