@@ -2,8 +2,8 @@
 use Rattle.std.proofs.Common.{◌≡◌, refl, ℕ, zero, suc, Bool, List, [], ◌∷◌, Option, Some, None, Result, Ok, ap, sym, subst, ◌∙◌}
 use Rattle.moka_records.specs.declared.instant.Instant.{Instant}
 use Rattle.moka_records.specs.declared.records.Record.{Record}
-use Rattle.moka_parts.specs.declared.calls.Ticket.{Ticket}
-use Rattle.moka_parts.specs.declared.error.SendError.{SendError}
+use Rattle.moka_types.specs.declared.calls.Ticket.{Ticket}
+use Rattle.moka_types.specs.declared.error.SendError.{SendError}
 use Rattle.moka_records.specs.Records.{record_of_key}
 use Rattle.moka_parts.specs.State.{State, Settings, Events}
 use Rattle.moka_parts.specs.Maintenance.{Choice, Removes, MovesToBack, Drops, kept_by_choices}

@@ -4,13 +4,13 @@ use Rattle.std.specs.Prelude.{IfSome}
 use Rattle.moka_parts.specs.declared.notification.RemovalCause.{RemovalCause}
 use Rattle.moka_records.specs.declared.instant.Instant.{Instant}
 use Rattle.moka_records.specs.declared.records.Record.{Record}
-use Rattle.moka_parts.specs.declared.calls.Ticket.{Ticket}
-use Rattle.moka_parts.specs.declared.calls.Entry.{Entry}
-use Rattle.moka_parts.specs.declared.calls.KvEntry.{KvEntry}
-use Rattle.moka_parts.specs.declared.calls.Call.TheVariants as call
-use Rattle.moka_parts.specs.declared.calls.Reply.TheVariants as reply
-use Rattle.moka_parts.specs.declared.error.OutOfMemory.{OutOfMemory}
-use Rattle.moka_parts.specs.declared.error.InsertRefused.{InsertRefused}
+use Rattle.moka_types.specs.declared.calls.Ticket.{Ticket}
+use Rattle.moka_types.specs.declared.calls.Entry.{Entry}
+use Rattle.moka_types.specs.declared.calls.KvEntry.{KvEntry}
+use Rattle.moka_types.specs.declared.calls.Call.TheVariants as call
+use Rattle.moka_types.specs.declared.calls.Reply.TheVariants as reply
+use Rattle.moka_types.specs.declared.error.OutOfMemory.{OutOfMemory}
+use Rattle.moka_types.specs.declared.error.InsertRefused.{InsertRefused}
 use Rattle.moka_parts.specs.Notices.{Notice, when_listening}
 use Rattle.moka_records.specs.Records.{record_of_key}
 use Rattle.moka_parts.specs.State.{State, Settings, Meaning, Events, is_disabled}

@@ -1,10 +1,10 @@
 -- What calls with a test of the key make is what the same calls make of a key that passes.
 use Rattle.std.proofs.Common.{◌≡◌, ℕ, Bool, true, false, List, Option, Some, None, find, Result, Ok, ap, subst, sym, ◌∙◌, MatchBool, refl}
 use Rattle.moka_records.specs.declared.records.Record.{Record}
-use Rattle.moka_parts.specs.declared.calls.Ticket.{Ticket}
-use Rattle.moka_parts.specs.declared.calls.Entry.{Entry}
-use Rattle.moka_parts.specs.declared.calls.KvEntry.{KvEntry}
-use Rattle.moka_parts.specs.declared.error.OutOfMemory.{OutOfMemory}
+use Rattle.moka_types.specs.declared.calls.Ticket.{Ticket}
+use Rattle.moka_types.specs.declared.calls.Entry.{Entry}
+use Rattle.moka_types.specs.declared.calls.KvEntry.{KvEntry}
+use Rattle.moka_types.specs.declared.error.OutOfMemory.{OutOfMemory}
 use Rattle.moka_parts.specs.Calls.{Unchanged, GetStep, GetsAt, ContainsStep, RemoveStep, RemovesAt}
 use Rattle.moka_parts.specs.KeyTests.{ContainsByStep, GetByStep, RemoveByStep}
 use Rattle.moka_records.specs.KeyTests.{record_by}

@@ -2,8 +2,8 @@
 use Rattle.std.proofs.Common.{◌≡◌, refl, ℕ, Bool, true, true≢false, Option, Some, None, option_map, ap, sym, subst, ◌∙◌, inl, inr}
 use Rattle.std.specs.Cmp.{IsEquivalence}
 use Rattle.std.specs.FinMap.{get, remove}
-use Rattle.moka_parts.specs.declared.calls.KvEntry.{KvEntry}
-use Rattle.moka_parts.specs.declared.calls.Ticket.{Ticket}
+use Rattle.moka_types.specs.declared.calls.KvEntry.{KvEntry}
+use Rattle.moka_types.specs.declared.calls.Ticket.{Ticket}
 use Rattle.moka_records.specs.declared.records.Record.{Record}
 use Rattle.moka_parts.specs.Calls.{RemovesAt}
 use Rattle.moka_records.specs.Records.{Records, record_of_key}

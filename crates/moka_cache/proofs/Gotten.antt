@@ -1,6 +1,6 @@
 -- What a look-up of many keys makes.
 use Rattle.std.proofs.Common.{◌≡◌, refl, ℕ, List, [], ◌∷◌, ◌++◌, Option, Result, Ok, Err}
-use Rattle.moka_parts.specs.declared.error.OutOfMemory.{OutOfMemory}
+use Rattle.moka_types.specs.declared.error.OutOfMemory.{OutOfMemory}
 use Rattle.moka_records.specs.declared.instant.Instant.{Instant}
 use Rattle.moka_parts.specs.Copies.{IsCopiedAnswer}
 use Rattle.moka_parts.specs.State.{Meaning}

@@ -1,10 +1,10 @@
 -- What calls for many keys make.
 use Rattle.std.proofs.Common.{◌≡◌, refl, ℕ, List, [], ◌∷◌, ◌++◌, append_assoc, append-nil, ap, sym, subst, ◌∙◌, Err}
-use Rattle.moka_parts.specs.declared.calls.Call.{Call}
-use Rattle.moka_parts.specs.declared.calls.Reply.{Reply}
+use Rattle.moka_types.specs.declared.calls.Call.{Call}
+use Rattle.moka_types.specs.declared.calls.Reply.{Reply}
 use Rattle.moka_parts.specs.State.{Meaning}
 use Rattle.moka_parts.specs.Runs.{Engine}
-use Rattle.moka_parts.specs.declared.error.InsertRefused.{InsertRefused}
+use Rattle.moka_types.specs.declared.error.InsertRefused.{InsertRefused}
 use Rattle.moka_records.specs.declared.instant.Instant.{Instant}
 use Rattle.moka_calls.specs.Synchronous.{InsertsEntry, Makes}
 use Rattle.moka_calls.specs.Computing.{InTurn}

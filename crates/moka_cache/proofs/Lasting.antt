@@ -6,7 +6,7 @@ use Rattle.std.specs.List.{AllByRecursion}
 use Rattle.std.proofs.lemmas.List.Elements.{Contains-push_cases}
 use Rattle.std.proofs.lemmas.Bool.{and_parts, or_parts}
 use Rattle.std.proofs.lemmas.Option.{same_Some}
-use Rattle.moka_parts.specs.declared.policy.EvictionPolicy.{EvictionPolicy}
+use Rattle.moka_types.specs.declared.policy.EvictionPolicy.{EvictionPolicy}
 use Rattle.moka_records.specs.declared.records.Operation.{Operation}
 use Rattle.moka_records.specs.declared.records.Operation.TheVariants.{Upsert, Removal}
 use Rattle.moka_records.specs.declared.records.ReadOperation.{ReadOperation}
@@ -15,7 +15,7 @@ use Rattle.moka_records.specs.declared.records.Record.{Record}
 use Rattle.moka_records.specs.declared.records.Ticketed.{Ticketed}
 use Rattle.moka_parts.specs.declared.notification.RemovalCause.{RemovalCause}
 use Rattle.moka_parts.specs.declared.notification.RemovalCause.TheVariants.{Expired, Explicit, Replaced, Size}
-use Rattle.moka_parts.specs.declared.error.SendError.{SendError}
+use Rattle.moka_types.specs.declared.error.SendError.{SendError}
 use Rattle.moka_parts.specs.Calls.{SendStep}
 use Rattle.moka_parts.specs.Exact.{weight_of_records}
 use Rattle.moka_parts.specs.Listed.{ListedRun}

@@ -7,7 +7,7 @@ use Rattle.moka_records.specs.declared.records.Record.{Record}
 use Rattle.moka_records.specs.declared.records.Operation.{Operation}
 use Rattle.moka_records.specs.declared.records.Operation.TheVariants.{Upsert, Removal}
 use Rattle.moka_records.specs.declared.records.Ticketed.{Ticketed}
-use Rattle.moka_parts.specs.declared.calls.Ticket.{Ticket}
+use Rattle.moka_types.specs.declared.calls.Ticket.{Ticket}
 use Rattle.moka_records.specs.Records.{record_of_key, counted_of}
 use Rattle.moka_parts.specs.State.{State, Events}
 use Rattle.moka_parts.specs.Settling.{IsWaiting, IsTracked, IsValid}

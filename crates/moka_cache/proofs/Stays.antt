@@ -5,8 +5,8 @@ use Rattle.std.specs.FinMap.{get, insert, remove}
 use Rattle.std.specs.List.{AllByRecursion}
 use Rattle.std.proofs.lemmas.Bool.{and_parts}
 use Rattle.std.proofs.lemmas.Option.{same_Some}
-use Rattle.moka_parts.specs.declared.policy.EvictionPolicy.{EvictionPolicy}
-use Rattle.moka_parts.specs.declared.policy.EvictionPolicy.TheVariants.{TinyLfu, Lru}
+use Rattle.moka_types.specs.declared.policy.EvictionPolicy.{EvictionPolicy}
+use Rattle.moka_types.specs.declared.policy.EvictionPolicy.TheVariants.{TinyLfu, Lru}
 use Rattle.moka_records.specs.declared.records.Record.{Record}
 use Rattle.moka_records.specs.declared.records.Member.{Member}
 use Rattle.moka_records.specs.declared.records.Operation.{Operation}
@@ -21,7 +21,7 @@ use Rattle.moka_parts.specs.Maintenance.{Choice, Removes, MovesToBack, Drops, Fr
 use Rattle.moka_records.proofs.Maps.{AreApart, same_or_apart, get_inserted, get_past_insert, get_past_remove, apart_below}
 use Rattle.moka_laws.proofs.RunKeeps.{reads_keep}
 use Rattle.moka_laws.proofs.Kept.{kept_by_send}
-use Rattle.moka_parts.specs.declared.error.SendError.{SendError}
+use Rattle.moka_types.specs.declared.error.SendError.{SendError}
 use Rattle.moka_parts.specs.Calls.{SendStep}
 use Rattle.moka_cache.specs.Unsent.{IsHeld, IsOlder, AreOlder}
 

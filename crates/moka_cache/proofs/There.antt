@@ -6,7 +6,7 @@ use Rattle.std.proofs.lemmas.List.Sums.{sum_by-cons}
 use Rattle.std.proofs.lemmas.List.Sorted.{sum_by-IsPermutation}
 use Rattle.std.specs.List.{AllByRecursion}
 use Rattle.std.proofs.lemmas.Option.{same_Some}
-use Rattle.moka_parts.specs.declared.calls.Ticket.{Ticket}
+use Rattle.moka_types.specs.declared.calls.Ticket.{Ticket}
 use Rattle.moka_records.specs.declared.records.Operation.TheVariants.{Upsert}
 use Rattle.moka_records.specs.declared.records.Record.{Record}
 use Rattle.moka_parts.specs.Exact.{weight_of_records}

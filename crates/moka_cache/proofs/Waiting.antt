@@ -7,11 +7,11 @@ use Rattle.moka_records.specs.declared.instant.Instant.{Instant}
 use Rattle.moka_records.specs.declared.records.Record.{Record}
 use Rattle.moka_records.specs.declared.records.Operation.{Operation}
 use Rattle.moka_records.specs.declared.records.Operation.TheVariants.{Upsert, Removal}
-use Rattle.moka_parts.specs.declared.calls.Ticket.{Ticket}
-use Rattle.moka_parts.specs.declared.calls.KvEntry.{KvEntry}
-use Rattle.moka_parts.specs.declared.error.InsertRefused.{InsertRefused}
-use Rattle.moka_parts.specs.declared.error.SendError.{SendError}
-use Rattle.moka_parts.specs.declared.error.SendError.TheVariants.{UnknownTicket, QueueFull}
+use Rattle.moka_types.specs.declared.calls.Ticket.{Ticket}
+use Rattle.moka_types.specs.declared.calls.KvEntry.{KvEntry}
+use Rattle.moka_types.specs.declared.error.InsertRefused.{InsertRefused}
+use Rattle.moka_types.specs.declared.error.SendError.{SendError}
+use Rattle.moka_types.specs.declared.error.SendError.TheVariants.{UnknownTicket, QueueFull}
 use Rattle.moka_records.specs.Records.{record_of_key}
 use Rattle.moka_parts.specs.State.{State, Events, is_disabled}
 use Rattle.moka_parts.specs.Calls.{Unchanged, SendsAt, SendStep, InsertsAt, InsertStep, RemovesAt, RemoveStep, entry_of, queue_length}

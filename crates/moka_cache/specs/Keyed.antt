@@ -1,8 +1,8 @@
 -- What a call by key promises of a synchronous cache, whoever makes it: a caller, a cache with a clock of its own, or one
 -- in segments.
 use Rattle.std.specs.Prelude.{◌≡◌, ℕ, Bool, [], true, false, Option, Some, None, Result, IfOk, IfErr, IfSome, OnErr, is_some}
-use Rattle.moka_parts.specs.declared.error.InsertRefused.{InsertRefused}
-use Rattle.moka_parts.specs.declared.error.OutOfMemory.{OutOfMemory}
+use Rattle.moka_types.specs.declared.error.InsertRefused.{InsertRefused}
+use Rattle.moka_types.specs.declared.error.OutOfMemory.{OutOfMemory}
 use Rattle.moka_records.specs.declared.instant.Instant.{Instant}
 use Rattle.moka_records.specs.declared.records.Record.{Record}
 use Rattle.moka_parts.specs.Calls.{ContainsStep}

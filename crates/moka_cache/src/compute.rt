@@ -1,8 +1,8 @@
 //! Entry calls that compute a key's value from the one that is there. moka: `ops::compute`, `sync::entry_selector`.
 ghost use Rattle.std.specs.Prelude.{◌≡◌, Option, Some, None, Result, Ok, Err, option_copied, option_map};
 ghost use Rattle.moka_records.specs.Records.{record_of_key};
-ghost use Rattle.moka_parts.specs.declared.error.InsertRefused.{InsertRefused};
-ghost use Rattle.moka_parts.specs.declared.error.OutOfMemory.{OutOfMemory};
+ghost use Rattle.moka_types.specs.declared.error.InsertRefused.{InsertRefused};
+ghost use Rattle.moka_types.specs.declared.error.OutOfMemory.{OutOfMemory};
 ghost use Rattle.moka_calls.specs.Computing.{HandsOutComputedPut, HandsOutTaken, AndUpserts, AndComputes};
 ghost use Rattle.moka_calls.specs.Given.{Sees};
 ghost use Rattle.moka_records.specs.Hashing.{key_hash};

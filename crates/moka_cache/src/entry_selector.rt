@@ -3,7 +3,7 @@
 //! moka: `sync::entry_selector`.
 ghost use Rattle.std.specs.Prelude.{◌≡◌, false, Option, Result, option_copied};
 ghost use Rattle.moka_parts.specs.Calls.{ContainsStep};
-ghost use Rattle.moka_parts.specs.declared.error.InsertRefused.{InsertRefused};
+ghost use Rattle.moka_types.specs.declared.error.InsertRefused.{InsertRefused};
 ghost use Rattle.moka_calls.specs.Computing.{AndUpserts, AndComputes};
 ghost use Rattle.moka_calls.specs.Entries.{OrInserts, OrInsertsMade, OrInsertsIfMade, OrInsertsIfNoError};
 ghost use Rattle.moka_calls.specs.Given.{Sees};

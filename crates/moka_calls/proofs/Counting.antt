@@ -4,14 +4,14 @@ use Rattle.std.specs.declared.alloc.Global.{Global}
 use Rattle.std.specs.declared.vec.Vec.{Vec}
 use Rattle.std.proofs.lemmas.List.Sums.{sum_by-append}
 use Rattle.moka_records.specs.declared.instant.Instant.{Instant}
-use Rattle.moka_parts.specs.declared.calls.Entry.{Entry}
-use Rattle.moka_parts.specs.declared.calls.Ticket.{Ticket}
-use Rattle.moka_parts.specs.declared.calls.Call.{Call}
-use Rattle.moka_parts.specs.declared.calls.Call.TheVariants as call
-use Rattle.moka_parts.specs.declared.calls.Reply.{Reply}
-use Rattle.moka_parts.specs.declared.calls.Reply.TheVariants as reply
-use Rattle.moka_parts.specs.declared.error.InsertRefused.{InsertRefused}
-use Rattle.moka_parts.specs.declared.error.OutOfMemory.{OutOfMemory}
+use Rattle.moka_types.specs.declared.calls.Entry.{Entry}
+use Rattle.moka_types.specs.declared.calls.Ticket.{Ticket}
+use Rattle.moka_types.specs.declared.calls.Call.{Call}
+use Rattle.moka_types.specs.declared.calls.Call.TheVariants as call
+use Rattle.moka_types.specs.declared.calls.Reply.{Reply}
+use Rattle.moka_types.specs.declared.calls.Reply.TheVariants as reply
+use Rattle.moka_types.specs.declared.error.InsertRefused.{InsertRefused}
+use Rattle.moka_types.specs.declared.error.OutOfMemory.{OutOfMemory}
 use Rattle.moka_records.specs.Time.{greatest, plus}
 use Rattle.moka_parts.specs.Copies.{IsCopiedAnswer}
 use Rattle.moka_calls.specs.declared.error.NotTold.{NotTold}

@@ -1,15 +1,15 @@
 -- Calls that compute a key's value from the one that is there: which calls of the reference cache each stands for, and
 -- what it answers.
 use Rattle.std.specs.Prelude.{◌≡◌, ℕ, Bool, true, false, List, ◌++◌, Option, Some, None, Result, Ok, Err, IfOk, IfSome, IfErr, is_some, ⊤}
-use Rattle.moka_parts.specs.declared.calls.Call.{Call}
-use Rattle.moka_parts.specs.declared.calls.Reply.{Reply}
-use Rattle.moka_parts.specs.declared.error.InsertRefused.{InsertRefused}
-use Rattle.moka_parts.specs.declared.error.OutOfMemory.{OutOfMemory}
+use Rattle.moka_types.specs.declared.calls.Call.{Call}
+use Rattle.moka_types.specs.declared.calls.Reply.{Reply}
+use Rattle.moka_types.specs.declared.error.InsertRefused.{InsertRefused}
+use Rattle.moka_types.specs.declared.error.OutOfMemory.{OutOfMemory}
 use Rattle.moka_records.specs.declared.instant.Instant.{Instant}
 use Rattle.moka_records.specs.Records.{record_of_key}
 use Rattle.moka_parts.specs.State.{Meaning}
 use Rattle.moka_parts.specs.Copies.{IsCopiedAnswer}
-use Rattle.moka_parts.specs.Texts.{out_of_memory_text, insert_text}
+use Rattle.moka_types.specs.Texts.{out_of_memory_text, insert_text}
 use Rattle.moka_calls.specs.declared.compute.CompResult.{CompResult}
 use Rattle.moka_calls.specs.declared.compute.CompResult.TheVariants.{Inserted, ReplacedWith, Removed, StillNone, Unchanged}
 use Rattle.moka_calls.specs.declared.compute.ComputeRefused.{ComputeRefused}

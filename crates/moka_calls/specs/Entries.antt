@@ -1,7 +1,7 @@
 -- Entry calls: what they answer beside the values of the calls that they stand for.
 use Rattle.std.specs.Prelude.{◌≡◌, ℕ, true, false, Option, Some, None, Result, Ok, Err, IfOk, IfSome, IfErr}
-use Rattle.moka_parts.specs.declared.error.InsertError.TheVariants as insert_error
-use Rattle.moka_parts.specs.declared.error.InsertRefused.{InsertRefused}
+use Rattle.moka_types.specs.declared.error.InsertError.TheVariants as insert_error
+use Rattle.moka_types.specs.declared.error.InsertRefused.{InsertRefused}
 use Rattle.moka_records.specs.declared.instant.Instant.{Instant}
 use Rattle.moka_parts.specs.State.{Meaning}
 use Rattle.moka_calls.specs.declared.entry.CacheEntry.{CacheEntry}

@@ -1,10 +1,10 @@
 -- What is promised of lists of calls that a cache made.
 use Rattle.std.specs.Prelude.{◌≡◌, ℕ, true, List, [], ◌∷◌, ◌++◌, Option, Some, Result, ⊤}
-use Rattle.moka_parts.specs.declared.calls.Call.{Call}
-use Rattle.moka_parts.specs.declared.calls.Call.TheVariants as call
-use Rattle.moka_parts.specs.declared.calls.Reply.{Reply}
-use Rattle.moka_parts.specs.declared.calls.Reply.TheVariants as reply
-use Rattle.moka_parts.specs.declared.error.CapacityError.{CapacityError}
+use Rattle.moka_types.specs.declared.calls.Call.{Call}
+use Rattle.moka_types.specs.declared.calls.Call.TheVariants as call
+use Rattle.moka_types.specs.declared.calls.Reply.{Reply}
+use Rattle.moka_types.specs.declared.calls.Reply.TheVariants as reply
+use Rattle.moka_types.specs.declared.error.CapacityError.{CapacityError}
 use Rattle.moka_records.specs.declared.instant.Instant.{Instant}
 use Rattle.moka_parts.specs.Calls.{CapacityStep, no_events}
 use Rattle.moka_parts.specs.State.{State, Meaning, keeps_write_list}

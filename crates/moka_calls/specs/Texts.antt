@@ -1,6 +1,6 @@
 -- What refusals print.
 use Rattle.std.specs.Prelude.{ℕ, List}
-use Rattle.moka_parts.specs.Texts.{out_of_memory_text, insert_text}
+use Rattle.moka_types.specs.Texts.{out_of_memory_text, insert_text}
 use Rattle.moka_calls.specs.declared.error.GetWithRefused.{GetWithRefused}
 use Rattle.moka_calls.specs.declared.error.GetWithRefused.TheVariants.{Lookup, Insert}
 

@@ -15,7 +15,7 @@ pub struct NotTold<V> {
 
 impl<V> fmt::Display for NotTold<V> {
     ghost use Rattle.std.specs.Prelude.{Some};
-    ghost use Rattle.moka_parts.specs.Texts.{out_of_memory_text};
+    ghost use Rattle.moka_types.specs.Texts.{out_of_memory_text};
 
     ghost output = { λ _. Some out_of_memory_text };
 

@@ -14,7 +14,7 @@ pub struct GetManyRefused<V> {
 
 impl<V> fmt::Display for GetManyRefused<V> {
     ghost use Rattle.std.specs.Prelude.{Some};
-    ghost use Rattle.moka_parts.specs.Texts.{out_of_memory_text};
+    ghost use Rattle.moka_types.specs.Texts.{out_of_memory_text};
 
     ghost output = { λ _. Some out_of_memory_text };
 
@@ -38,7 +38,7 @@ pub struct InsertManyRefused<K, V> {
 
 impl<K, V> fmt::Display for InsertManyRefused<K, V> {
     ghost use Rattle.std.specs.Prelude.{Some};
-    ghost use Rattle.moka_parts.specs.Texts.{insert_text};
+    ghost use Rattle.moka_types.specs.Texts.{insert_text};
 
     ghost output = { λ e. Some (insert_text e.refused.error) };
 
@@ -60,7 +60,7 @@ pub struct InvalidateManyRefused<V> {
 
 impl<V> fmt::Display for InvalidateManyRefused<V> {
     ghost use Rattle.std.specs.Prelude.{Some};
-    ghost use Rattle.moka_parts.specs.Texts.{out_of_memory_text};
+    ghost use Rattle.moka_types.specs.Texts.{out_of_memory_text};
 
     ghost output = { λ _. Some out_of_memory_text };
 

@@ -7,7 +7,7 @@ ghost use Rattle.moka_parts.specs.Copies.{ClonesAreEqual};
 ghost use Rattle.moka_parts.specs.Notices.{Notice};
 ghost use Rattle.moka_parts.specs.Drives.{Drives};
 ghost use Rattle.moka_parts.specs.Runs.{Befalls};
-ghost use Rattle.moka_parts.specs.declared.calls.Reply.TheVariants.{Report};
+ghost use Rattle.moka_types.specs.declared.calls.Reply.TheVariants.{Report};
 ghost use Rattle.moka_engine.specs.Makes.{Makes as MakesCall};
 ghost use Rattle.moka_drive.specs.Replies.{RemovesAndNotifies, NotifiesEntry, TellsPending};
 

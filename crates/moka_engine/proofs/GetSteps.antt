@@ -3,8 +3,8 @@ use Rattle.std.proofs.Common.{◌≡◌, refl, ℕ, Bool, true, false, List, [],
 use Rattle.std.specs.Prelude.{nat_lt}
 use Rattle.std.specs.Cmp.{IsEquivalence}
 use Rattle.std.specs.FinMap.{get, insert}
-use Rattle.moka_parts.specs.declared.calls.Entry.{Entry}
-use Rattle.moka_parts.specs.declared.error.OutOfMemory.{OutOfMemory}
+use Rattle.moka_types.specs.declared.calls.Entry.{Entry}
+use Rattle.moka_types.specs.declared.error.OutOfMemory.{OutOfMemory}
 use Rattle.moka_parts.specs.declared.notification.RemovalCause.{RemovalCause}
 use Rattle.moka_records.specs.declared.instant.Instant.{Instant}
 use Rattle.moka_records.specs.declared.records.ReadOperation.{ReadOperation}
@@ -15,7 +15,7 @@ use Rattle.moka_parts.specs.Expiry.{is_renewal, renewed, answer_to_hit}
 use Rattle.moka_parts.specs.Housekeeping.{is_due}
 use Rattle.moka_parts.specs.Listed.{ListedRun}
 use Rattle.moka_parts.specs.Maintenance.{Terms, Course}
-use Rattle.moka_parts.specs.Policy.{Expirations}
+use Rattle.moka_types.specs.Policy.{Expirations}
 use Rattle.moka_parts.specs.Notices.{Notice}
 use Rattle.moka_records.specs.Records.{Records, record_of_key, with_record}
 use Rattle.moka_parts.specs.Runs.{Engine, Befalls}

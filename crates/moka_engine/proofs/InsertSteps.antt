@@ -3,10 +3,10 @@ use Rattle.std.proofs.Common.{◌≡◌, refl, ℕ, ◌+◌, ◌^◌, ◌≤◌,
 use Rattle.std.specs.Prelude.{nat_le}
 use Rattle.std.specs.Cmp.{IsEquivalence}
 use Rattle.std.specs.FinMap.{get, insert, len}
-use Rattle.moka_parts.specs.declared.calls.Ticket.{Ticket}
-use Rattle.moka_parts.specs.declared.error.InsertError.{InsertError}
-use Rattle.moka_parts.specs.declared.error.InsertError.TheVariants.{NumbersUsedUp, OutOfMemory}
-use Rattle.moka_parts.specs.declared.error.InsertRefused.{InsertRefused}
+use Rattle.moka_types.specs.declared.calls.Ticket.{Ticket}
+use Rattle.moka_types.specs.declared.error.InsertError.{InsertError}
+use Rattle.moka_types.specs.declared.error.InsertError.TheVariants.{NumbersUsedUp, OutOfMemory}
+use Rattle.moka_types.specs.declared.error.InsertRefused.{InsertRefused}
 use Rattle.moka_parts.specs.declared.notification.RemovalCause.{RemovalCause}
 use Rattle.moka_records.specs.declared.instant.Instant.{Instant}
 use Rattle.moka_records.specs.declared.records.Operation.TheVariants.{Upsert}

@@ -1,10 +1,10 @@
 -- What holds of a new cache.
 use Rattle.std.proofs.Common.{◌≡◌, refl, ℕ, Bool, List, [], Option, None, is_some, ap, sym, subst, ◌∙◌}
 use Rattle.moka_parts.specs.declared.housekeeper.HousekeeperConfig.{HousekeeperConfig}
-use Rattle.moka_parts.specs.declared.policy.EvictionPolicy.{EvictionPolicy}
+use Rattle.moka_types.specs.declared.policy.EvictionPolicy.{EvictionPolicy}
 use Rattle.moka_parts.specs.declared.records.Registered.{Registered}
 use Rattle.moka_parts.specs.Housekeeper.{Keeper, new_keeper}
-use Rattle.moka_parts.specs.Policy.{Expirations}
+use Rattle.moka_types.specs.Policy.{Expirations}
 use Rattle.moka_parts.specs.State.{Settings, new_state}
 use Rattle.moka_records.proofs.Maps.{nothing_at}
 use Rattle.moka_laws.proofs.NewCache.{new_is_valid}

@@ -1,8 +1,8 @@
 -- The registration of a predicate as a step of the reference cache, and what always holds after it.
 use Rattle.std.proofs.Common.{◌≡◌, refl, Bool, true, false, true≢false, List, [], Option, Result, Err, sym, subst, ◌∙◌}
 use Rattle.uuid.specs.declared.Uuid.{Uuid}
-use Rattle.moka_parts.specs.declared.error.PredicateError.TheVariants.{InvalidationClosuresDisabled}
-use Rattle.moka_parts.specs.declared.error.PredicateRefused.{PredicateRefused}
+use Rattle.moka_types.specs.declared.error.PredicateError.TheVariants.{InvalidationClosuresDisabled}
+use Rattle.moka_types.specs.declared.error.PredicateRefused.{PredicateRefused}
 use Rattle.moka_parts.specs.declared.notification.RemovalCause.{RemovalCause}
 use Rattle.moka_records.specs.declared.instant.Instant.{Instant}
 use Rattle.moka_parts.specs.declared.records.Registered.{Registered}

@@ -4,9 +4,9 @@ use Rattle.std.specs.Prelude.{nat_le}
 use Rattle.std.specs.Cmp.{IsEquivalence, nat_cmp_total}
 use Rattle.std.specs.FinMap.{FinMap, get, insert, len, same_map, nat_cmp-IsAntisymmetric}
 use Rattle.std.specs.Ordering.{nat_cmp}
-use Rattle.moka_parts.specs.declared.calls.Ticket.{Ticket}
-use Rattle.moka_parts.specs.declared.error.InsertError.{InsertError}
-use Rattle.moka_parts.specs.declared.error.InsertError.TheVariants.{NumbersUsedUp, OutOfMemory}
+use Rattle.moka_types.specs.declared.calls.Ticket.{Ticket}
+use Rattle.moka_types.specs.declared.error.InsertError.{InsertError}
+use Rattle.moka_types.specs.declared.error.InsertError.TheVariants.{NumbersUsedUp, OutOfMemory}
 use Rattle.moka_records.specs.declared.records.Operation.TheVariants.{Upsert}
 use Rattle.moka_records.specs.declared.records.Record.{Record}
 use Rattle.moka_parts.specs.Calls.{Weighs, HasInsertError, are_numbers_used_up, inserted, new_record}
@@ -17,8 +17,8 @@ use Rattle.moka_parts.specs.State.{State, is_disabled}
 use Rattle.moka_laws.proofs.CallsKeep.{inserted_valid, replaced_from, with_records_numbered}
 use Rattle.moka_laws.proofs.Consistent.{renew_kept}
 use Rattle.moka_records.proofs.Maps.{same_or_apart, get_inserted, get_past_insert}
-use Rattle.moka_parts.specs.declared.restores.Restored.{Restored}
-use Rattle.moka_parts.specs.declared.restores.RestoreRefused.{RestoreRefused}
+use Rattle.moka_types.specs.declared.restores.Restored.{Restored}
+use Rattle.moka_types.specs.declared.restores.RestoreRefused.{RestoreRefused}
 use Rattle.moka_engine.specs.BaseCache.{IsStocked, IsWhole}
 use Rattle.moka_parts.specs.Restores.{HasRestoreError, RestoreStep, is_unsupported, restore_error, restored_record, restored}
 use Rattle.moka_engine.proofs.InsertSteps.{has_error, not_at_least, refusal}

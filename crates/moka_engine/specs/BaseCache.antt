@@ -1,10 +1,10 @@
 -- What always holds of a cache, and how its parts make the state that contracts see.
 use Rattle.std.specs.Prelude.{◌≡◌, ℕ, Bool, true, false, List, [], Option, None, is_some}
-use Rattle.moka_parts.specs.declared.policy.EvictionPolicy.{EvictionPolicy}
+use Rattle.moka_types.specs.declared.policy.EvictionPolicy.{EvictionPolicy}
 use Rattle.moka_records.specs.declared.instant.Instant.{Instant}
 use Rattle.moka_parts.specs.declared.records.Registered.{Registered}
 use Rattle.moka_parts.specs.Housekeeper.{Keeper}
-use Rattle.moka_parts.specs.Policy.{Expirations}
+use Rattle.moka_types.specs.Policy.{Expirations}
 use Rattle.moka_parts.specs.Settling.{IsValid, NeverRenews}
 use Rattle.moka_parts.specs.Runs.{Engine}
 use Rattle.moka_parts.specs.State.{State, Settings, keeps_write_list, new_state}

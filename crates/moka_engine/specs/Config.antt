@@ -1,7 +1,7 @@
 -- What a cache is to be made with, and the cache that this makes.
 use Rattle.std.specs.Prelude.{ℕ, Bool, false, List, Option, Some, None, is_some}
-use Rattle.moka_parts.specs.declared.policy.EvictionPolicy.{EvictionPolicy}
-use Rattle.moka_parts.specs.declared.policy.EvictionPolicy.TheVariants.{TinyLfu}
+use Rattle.moka_types.specs.declared.policy.EvictionPolicy.{EvictionPolicy}
+use Rattle.moka_types.specs.declared.policy.EvictionPolicy.TheVariants.{TinyLfu}
 use Rattle.moka_parts.specs.Runs.{Engine}
 use Rattle.moka_parts.specs.State.{Settings}
 use Rattle.moka_engine.specs.BaseCache.{empty_engine}

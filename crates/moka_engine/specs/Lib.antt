@@ -7,7 +7,7 @@ pub use Rattle.moka_lookups.specs.Sights
 pub use Rattle.moka_lookups.specs.Snapshots
 pub use Rattle.moka_parts.specs.Restores
 pub use Rattle.moka_records.specs.Time
-pub use Rattle.moka_parts.specs.Policy
+pub use Rattle.moka_types.specs.Policy
 pub use Rattle.moka_parts.specs.Records
 pub use Rattle.moka_parts.specs.Surroundings
 pub use Rattle.moka_parts.specs.Notification
@@ -36,6 +36,6 @@ pub use Rattle.moka_parts.specs.Runs
 pub use Rattle.moka_parts.specs.Listed
 pub use Rattle.moka_parts.specs.Laws
 pub use Rattle.moka_parts.specs.Drives
-pub use Rattle.moka_parts.specs.Texts
+pub use Rattle.moka_types.specs.Texts
 pub use Rattle.moka_parts.specs.KeyTests
 pub use Rattle.moka_records.specs.Hashing

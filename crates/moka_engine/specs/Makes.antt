@@ -1,7 +1,7 @@
 -- One relation over every call: what it replies, the cache before and after it, and what its surroundings go through.
 use Rattle.std.specs.Prelude.{◌≡◌, ℕ, Bool, Option, List}
-use Rattle.moka_parts.specs.declared.calls.Call.{Call}
-use Rattle.moka_parts.specs.declared.calls.Reply.{Reply}
+use Rattle.moka_types.specs.declared.calls.Call.{Call}
+use Rattle.moka_types.specs.declared.calls.Reply.{Reply}
 use Rattle.moka_parts.specs.declared.notification.RemovalCause.{RemovalCause}
 use Rattle.moka_records.specs.declared.instant.Instant.{Instant}
 use Rattle.moka_parts.specs.Calls.{RunStep}

@@ -1,19 +1,19 @@
--- The types of moka_parts as contracts see them, and that of identifiers.
-pub use Rattle.moka_parts.specs.declared.calls.Call
-pub use Rattle.moka_parts.specs.declared.calls.DriveRefused
-pub use Rattle.moka_parts.specs.declared.calls.Entry
-pub use Rattle.moka_parts.specs.declared.calls.KvEntry
-pub use Rattle.moka_parts.specs.declared.calls.Reply
-pub use Rattle.moka_parts.specs.declared.calls.Ticket
-pub use Rattle.moka_parts.specs.declared.error.CapacityError
-pub use Rattle.moka_parts.specs.declared.error.InsertError
-pub use Rattle.moka_parts.specs.declared.error.InsertRefused
-pub use Rattle.moka_parts.specs.declared.error.OutOfMemory
-pub use Rattle.moka_parts.specs.declared.error.PredicateError
-pub use Rattle.moka_parts.specs.declared.error.PredicateRefused
-pub use Rattle.moka_parts.specs.declared.error.SendError
+-- The types that calls mention as contracts see them, and that of identifiers.
+pub use Rattle.moka_types.specs.declared.calls.Call
+pub use Rattle.moka_types.specs.declared.calls.DriveRefused
+pub use Rattle.moka_types.specs.declared.calls.Entry
+pub use Rattle.moka_types.specs.declared.calls.KvEntry
+pub use Rattle.moka_types.specs.declared.calls.Reply
+pub use Rattle.moka_types.specs.declared.calls.Ticket
+pub use Rattle.moka_types.specs.declared.error.CapacityError
+pub use Rattle.moka_types.specs.declared.error.InsertError
+pub use Rattle.moka_types.specs.declared.error.InsertRefused
+pub use Rattle.moka_types.specs.declared.error.OutOfMemory
+pub use Rattle.moka_types.specs.declared.error.PredicateError
+pub use Rattle.moka_types.specs.declared.error.PredicateRefused
+pub use Rattle.moka_types.specs.declared.error.SendError
 pub use Rattle.moka_parts.specs.declared.notification.RemovalCause
-pub use Rattle.moka_parts.specs.declared.policy.EvictionPolicy
+pub use Rattle.moka_types.specs.declared.policy.EvictionPolicy
 pub use Rattle.moka_records.specs.declared.instant.Instant
 pub use Rattle.moka_records.specs.declared.records.Member
 pub use Rattle.moka_records.specs.declared.records.Operation
@@ -21,7 +21,7 @@ pub use Rattle.moka_records.specs.declared.records.ReadOperation
 pub use Rattle.moka_records.specs.declared.records.Record
 pub use Rattle.moka_parts.specs.declared.records.Registered
 pub use Rattle.moka_records.specs.declared.records.Ticketed
-pub use Rattle.moka_parts.specs.declared.restores.RestoreError
-pub use Rattle.moka_parts.specs.declared.restores.RestoreRefused
-pub use Rattle.moka_parts.specs.declared.restores.Restored
+pub use Rattle.moka_types.specs.declared.restores.RestoreError
+pub use Rattle.moka_types.specs.declared.restores.RestoreRefused
+pub use Rattle.moka_types.specs.declared.restores.Restored
 pub use Rattle.uuid.specs.declared.Uuid

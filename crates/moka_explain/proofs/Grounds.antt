@@ -6,8 +6,8 @@ use Rattle.std.specs.FinMap.{get}
 use Rattle.std.specs.FinMap as finite
 use Rattle.std.proofs.lemmas.Bool.{ltb-true}
 use Rattle.std.proofs.lemmas.List.Elements.{Contains-append_left, Contains-append_right, Contains-append_cases, Contains-push}
-use Rattle.moka_parts.specs.declared.policy.EvictionPolicy.{EvictionPolicy}
-use Rattle.moka_parts.specs.declared.policy.EvictionPolicy.TheVariants.{Lru, TinyLfu}
+use Rattle.moka_types.specs.declared.policy.EvictionPolicy.{EvictionPolicy}
+use Rattle.moka_types.specs.declared.policy.EvictionPolicy.TheVariants.{Lru, TinyLfu}
 use Rattle.moka_records.specs.declared.records.Member.{Member}
 use Rattle.moka_records.specs.declared.records.Operation.{Operation}
 use Rattle.moka_records.specs.declared.records.Operation.TheVariants.{Upsert, Removal}

@@ -2,10 +2,10 @@
 use Rattle.std.proofs.Common.{◌≡◌, ℕ, Bool, true, false, List, [], ◌∷◌, Some, None, option_map, ap, sym, ◌∙◌, subst, unwrap_or, slice_get, MatchBool}
 use Rattle.std.specs.Duration.{as_nanos}
 use Rattle.std.specs.FinMap.{get}
-use Rattle.moka_parts.specs.declared.calls.Reply.{Reply}
+use Rattle.moka_types.specs.declared.calls.Reply.{Reply}
 use Rattle.moka_records.specs.declared.records.Record.{Record}
-use Rattle.moka_parts.specs.declared.calls.Call.TheVariants as call
-use Rattle.moka_parts.specs.declared.calls.Reply.TheVariants as reply
+use Rattle.moka_types.specs.declared.calls.Call.TheVariants as call
+use Rattle.moka_types.specs.declared.calls.Reply.TheVariants as reply
 use Rattle.moka_parts.specs.Calls.{KeeperRun, Unchanged, keeper_terms}
 use Rattle.moka_parts.specs.Drives.{Drives}
 use Rattle.moka_parts.specs.Housekeeping.{is_due}

@@ -3,7 +3,7 @@ use Rattle.std.specs.Prelude.{◌≡◌, ℕ, Bool, List, length, map, Contains,
 use Rattle.std.specs.List.{AllByRecursion}
 use Rattle.std.specs.List.Sorted.{IsNonDecreasing}
 use Rattle.std.specs.FinMap.{get, values}
-use Rattle.moka_parts.specs.declared.calls.Call.TheVariants as call
+use Rattle.moka_types.specs.declared.calls.Call.TheVariants as call
 use Rattle.moka_records.specs.declared.instant.Instant.{Instant}
 use Rattle.moka_records.specs.declared.records.Record.{Record}
 use Rattle.moka_parts.specs.Maintenance.{Freedom, AreFree, at_end, left_in_run}

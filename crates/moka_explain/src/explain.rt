@@ -2,7 +2,7 @@
 ghost use Rattle.std.specs.Prelude.{◌≡◌, ℕ, List, [], ◌∷◌, map, IfOk, IsPermutation};
 ghost use Rattle.std.specs.FinMap.{values};
 ghost use Rattle.std.specs.List.Sorted.{IsNonDecreasing};
-ghost use Rattle.moka_parts.specs.declared.calls.Reply.{Reply};
+ghost use Rattle.moka_types.specs.declared.calls.Reply.{Reply};
 ghost use Rattle.moka_parts.specs.Drives.{Drives};
 ghost use Rattle.moka_script.specs.declared.key_range.KeyRange.{KeyRange};
 ghost use Rattle.moka_script.specs.Text.{IsInOrder};

@@ -14,7 +14,7 @@ use Rattle.moka_records.specs.declared.records.ReadOperation.{ReadOperation}
 use Rattle.moka_records.specs.declared.records.ReadOperation.TheVariants.{Hit, Miss}
 use Rattle.moka_records.specs.declared.records.Ticketed.{Ticketed}
 use Rattle.moka_parts.specs.declared.notification.RemovalCause.{RemovalCause}
-use Rattle.moka_parts.specs.declared.policy.EvictionPolicy.{EvictionPolicy}
+use Rattle.moka_types.specs.declared.policy.EvictionPolicy.{EvictionPolicy}
 use Rattle.moka_parts.specs.Calls.{queue_length}
 use Rattle.moka_records.specs.Records.{Records}
 use Rattle.moka_parts.specs.Settling.{number_of, IsWaitingIn}

@@ -6,7 +6,7 @@ ghost use Rattle.moka_records.specs.Hashing.{key_hash};
 ghost use Rattle.moka_parts.specs.Calls.{queue_length};
 ghost use Rattle.moka_records.specs.Records.{IsListOf, record_of_key, total_weight, with_record};
 ghost use Rattle.moka_parts.specs.Reads.{after_reads};
-ghost use Rattle.moka_parts.specs.declared.error.InsertError.TheVariants.{NumbersUsedUp};
+ghost use Rattle.moka_types.specs.declared.error.InsertError.TheVariants.{NumbersUsedUp};
 ghost use Rattle.moka_records.specs.declared.records.Operation.{Operation};
 ghost use Rattle.moka_records.specs.declared.records.Operation.TheVariants.{Upsert, Removal};
 ghost use Rattle.moka_records.specs.declared.records.Record.{Record};

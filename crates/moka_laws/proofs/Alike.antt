@@ -1,7 +1,7 @@
 -- Runs and gets change neither the operations that wait nor the capacity.
 use Rattle.std.proofs.Common.{◌≡◌, refl, ℕ, Bool, true, false, List, [], length, Option, Some, None, Result, Ok, Err, ap, sym, subst, ◌∙◌, MatchBool}
-use Rattle.moka_parts.specs.declared.calls.Entry.{Entry}
-use Rattle.moka_parts.specs.declared.error.OutOfMemory.{OutOfMemory}
+use Rattle.moka_types.specs.declared.calls.Entry.{Entry}
+use Rattle.moka_types.specs.declared.error.OutOfMemory.{OutOfMemory}
 use Rattle.moka_records.specs.declared.records.Record.{Record}
 use Rattle.moka_records.specs.declared.records.ReadOperation.{ReadOperation}
 use Rattle.moka_records.specs.declared.records.ReadOperation.TheVariants.{Miss}

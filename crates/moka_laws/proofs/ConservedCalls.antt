@@ -4,8 +4,8 @@ use Rattle.std.specs.Cmp.{IsEquivalence}
 use Rattle.std.proofs.lemmas.List.Sorted.{IsPermutation-refl, IsPermutation-sym, IsPermutation-trans, IsPermutation-map, IsPermutation-to_front}
 use Rattle.std.specs.FinMap.{insert, remove, values}
 use Rattle.moka_laws.proofs.Types.{Instant, Record, Ticket, KvEntry, OutOfMemory, InsertRefused, Call, Reply, Notice, State, Settings, Meaning, Events, Terms, Course}
-use Rattle.moka_parts.specs.declared.calls.Call.TheVariants as call
-use Rattle.moka_parts.specs.declared.calls.Reply.TheVariants as reply
+use Rattle.moka_types.specs.declared.calls.Call.TheVariants as call
+use Rattle.moka_types.specs.declared.calls.Reply.TheVariants as reply
 use Rattle.moka_parts.specs.Notices.{when_listening}
 use Rattle.moka_records.specs.Records.{record_of_key}
 use Rattle.moka_parts.specs.Maintenance.{MaintenanceRun, left_in_run}

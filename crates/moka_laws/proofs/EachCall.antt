@@ -5,8 +5,8 @@ use Rattle.std.specs.Duration.{as_nanos}
 use Rattle.std.specs.FinMap.{get, remove}
 use Rattle.uuid.specs.declared.Uuid.{Uuid}
 use Rattle.moka_laws.proofs.Types.{Instant, Record, Registered, ReadOperation, Miss, Operation, Removal, Ticket, Entry, KvEntry, Call, Reply, OutOfMemory, InsertRefused, Housekeeping, Notice, State, Meaning, Events, Terms, Course}
-use Rattle.moka_parts.specs.declared.calls.Call.TheVariants as call
-use Rattle.moka_parts.specs.declared.calls.Reply.TheVariants as reply
+use Rattle.moka_types.specs.declared.calls.Call.TheVariants as call
+use Rattle.moka_types.specs.declared.calls.Reply.TheVariants as reply
 use Rattle.moka_parts.specs.Housekeeping.{is_due, after_run_due, without_automatic}
 use Rattle.moka_records.specs.Records.{record_of_key}
 use Rattle.moka_parts.specs.State.{is_disabled}

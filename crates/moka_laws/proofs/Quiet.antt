@@ -1,7 +1,7 @@
 -- What stays as it is: a cache to which nothing happens, one that is notified of alone, and what limits it in a removal.
 use Rattle.std.proofs.Common.{◌≡◌, refl, ap, subst, ◌∙◌, Bool, List, [], Option, Some, None}
-use Rattle.moka_parts.specs.declared.calls.KvEntry.{KvEntry}
-use Rattle.moka_parts.specs.declared.calls.Ticket.{Ticket}
+use Rattle.moka_types.specs.declared.calls.KvEntry.{KvEntry}
+use Rattle.moka_types.specs.declared.calls.Ticket.{Ticket}
 use Rattle.moka_parts.specs.declared.notification.RemovalCause.{RemovalCause}
 use Rattle.moka_records.specs.declared.records.Record.{Record}
 use Rattle.moka_parts.specs.Notices.{Notice}

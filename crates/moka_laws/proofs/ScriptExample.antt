@@ -3,8 +3,8 @@ use Rattle.std.proofs.Common.{◌≡◌, refl, ℕ, false, ◌==◌, [], ◌∷�
 use Rattle.std.specs.Cmp.{nat_cmp_total}
 use Rattle.std.specs.FinMap.{insert, remove, empty, get-insert, entries, entries-insert, len-entries, put}
 use Rattle.moka_laws.proofs.Types.{TinyLfu, Instant, Record, Operation, Upsert, Hit, State, Settings, Meaning, Freedom, Course}
-use Rattle.moka_parts.specs.declared.calls.Call.TheVariants as call
-use Rattle.moka_parts.specs.declared.calls.Reply.TheVariants as reply
+use Rattle.moka_types.specs.declared.calls.Call.TheVariants as call
+use Rattle.moka_types.specs.declared.calls.Reply.TheVariants as reply
 use Rattle.moka_parts.specs.State.{new_state}
 use Rattle.moka_parts.specs.Maintenance.{MaintenanceRun, after_run}
 use Rattle.moka_parts.specs.Calls.{no_events, run_events, are_numbers_used_up, after_hit}

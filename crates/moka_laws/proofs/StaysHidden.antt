@@ -4,7 +4,7 @@ use Rattle.std.specs.Cmp.{IsEquivalence}
 use Rattle.std.proofs.lemmas.List.Elements.{Contains-append_left, Contains-append_right, Contains-push, at_from_Contains}
 use Rattle.std.specs.FinMap.{get, insert}
 use Rattle.moka_laws.proofs.Types.{Instant, Record, Registered, Call, Reply, Step, Notice, State, Settings, Meaning, Events, Terms, Course, Freedom}
-use Rattle.moka_parts.specs.declared.calls.Call.TheVariants as call
+use Rattle.moka_types.specs.declared.calls.Call.TheVariants as call
 use Rattle.moka_parts.specs.Settling.{IsWellNumbered, IsValid}
 use Rattle.moka_parts.specs.Calls.{new_record, updated_record, hit_record, ContainsStep}
 use Rattle.moka_parts.specs.Runs.{CallStep, AreSteps, last_state}

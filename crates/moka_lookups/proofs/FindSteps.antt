@@ -3,7 +3,7 @@ use Rattle.std.proofs.Common.{◌≡◌, refl, ℕ, Bool, true, false, ◌⊎◌
 use Rattle.moka_records.specs.declared.instant.Instant.{Instant}
 use Rattle.moka_records.specs.declared.records.Record.{Record}
 use Rattle.moka_parts.specs.declared.records.Registered.{Registered}
-use Rattle.moka_parts.specs.Policy.{Expirations}
+use Rattle.moka_types.specs.Policy.{Expirations}
 use Rattle.moka_parts.specs.Surroundings.{IsAskedOnce}
 use Rattle.moka_parts.specs.Visibility.{has_lapsed, SomeCovers}
 use Rattle.moka_store.specs.declared.store.Handle.{Handle}

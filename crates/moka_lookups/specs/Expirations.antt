@@ -1,9 +1,9 @@
 -- Which of the settings let records expire.
 use Rattle.std.specs.Prelude.{◌≡◌, ℕ, false, None, Some}
 use Rattle.std.specs.FinMap.{get}
-use Rattle.moka_parts.specs.declared.policy.EvictionPolicy.TheVariants.{Lru}
+use Rattle.moka_types.specs.declared.policy.EvictionPolicy.TheVariants.{Lru}
 use Rattle.moka_records.specs.declared.records.Record.{Record}
-use Rattle.moka_parts.specs.Policy.{Expirations}
+use Rattle.moka_types.specs.Policy.{Expirations}
 use Rattle.moka_records.specs.Records.{Records}
 use Rattle.moka_parts.specs.State.{Settings}
 

@@ -1,12 +1,12 @@
 -- What a look-up finds, and what a hit makes of a record.
 use Rattle.std.specs.Prelude.{◌≡◌, ℕ, Bool, true, false, List, Option, Some, None, option_map, if◌then◌else◌, ◌⊎◌}
 use Rattle.std.specs.FinMap.{get}
-use Rattle.moka_parts.specs.declared.calls.Entry.{Entry}
+use Rattle.moka_types.specs.declared.calls.Entry.{Entry}
 use Rattle.moka_records.specs.declared.instant.Instant.{Instant}
 use Rattle.moka_records.specs.declared.records.Record.{Record}
 use Rattle.moka_parts.specs.declared.records.Registered.{Registered}
 use Rattle.moka_parts.specs.Expiry.{is_renewal, renewed, moment_of_hit, answer_to_hit}
-use Rattle.moka_parts.specs.Policy.{Expirations}
+use Rattle.moka_types.specs.Policy.{Expirations}
 use Rattle.moka_parts.specs.Visibility.{has_lapsed, SomeCovers, NoneCovers}
 use Rattle.moka_store.specs.declared.store.Handle.{Handle}
 use Rattle.moka_store.specs.Store.{Kept, IsHandle}

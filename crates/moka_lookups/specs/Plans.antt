@@ -5,7 +5,7 @@ use Rattle.moka_records.specs.declared.instant.Instant.{Instant}
 use Rattle.moka_records.specs.declared.records.Record.{Record}
 use Rattle.moka_parts.specs.Causes.{cause_of_replacement}
 use Rattle.moka_parts.specs.Expiry.{expires_at_first, expires_updated}
-use Rattle.moka_parts.specs.Policy.{Expirations}
+use Rattle.moka_types.specs.Policy.{Expirations}
 use Rattle.moka_records.specs.Records.{record_of_key}
 use Rattle.moka_store.specs.Store.{Kept, IsHandle}
 use Rattle.moka_lookups.specs.declared.inserts.Plan.{Plan}

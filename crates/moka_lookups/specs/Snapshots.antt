@@ -6,7 +6,7 @@ use Rattle.moka_records.specs.declared.records.Member.{Member}
 use Rattle.moka_records.specs.declared.records.Record.{Record}
 use Rattle.moka_parts.specs.declared.records.Registered.{Registered}
 use Rattle.moka_parts.specs.Expiry.{remaining}
-use Rattle.moka_parts.specs.Policy.{Expirations}
+use Rattle.moka_types.specs.Policy.{Expirations}
 use Rattle.moka_records.specs.Records.{Records, counted_of}
 use Rattle.moka_parts.specs.State.{State}
 use Rattle.moka_parts.specs.Visibility.{has_lapsed, SomeCovers, NoneCovers}

@@ -5,8 +5,8 @@ use Rattle.std.proofs.lemmas.Bool.{cond-false, eq-eqb}
 use Rattle.std.specs.FinMap.{get, remove, insert}
 use Rattle.moka_parts.specs.declared.notification.RemovalCause.{RemovalCause}
 use Rattle.moka_parts.specs.declared.notification.RemovalCause.TheVariants.{Size}
-use Rattle.moka_parts.specs.declared.policy.EvictionPolicy.{EvictionPolicy}
-use Rattle.moka_parts.specs.declared.policy.EvictionPolicy.TheVariants.{TinyLfu}
+use Rattle.moka_types.specs.declared.policy.EvictionPolicy.{EvictionPolicy}
+use Rattle.moka_types.specs.declared.policy.EvictionPolicy.TheVariants.{TinyLfu}
 use Rattle.moka_records.specs.declared.records.Record.{Record}
 use Rattle.moka_records.specs.declared.records.Member.{Member}
 use Rattle.moka_records.specs.declared.records.Operation.TheVariants.{Removal, Upsert}

@@ -4,7 +4,7 @@ use Rattle.std.specs.List.{AllByRecursion, AllWithin, HoldsAt, All}
 use Rattle.std.proofs.lemmas.List.Elements.{All-from_all_within, AllWithin-upto, All-head, All-tail, All-contains, Contains-get_or}
 use Rattle.uuid.specs.declared.Uuid.{Uuid}
 use Rattle.moka_parts.proofs.Types.{Instant, Record, Registered, PredicateError, PredicateRefused, State}
-use Rattle.moka_parts.specs.declared.error.PredicateError.TheVariants as predicate_error
+use Rattle.moka_types.specs.declared.error.PredicateError.TheVariants as predicate_error
 use Rattle.moka_parts.specs.Visibility.{Covers, SomeCovers, NoneCovers, FirstCovers}
 use Rattle.moka_parts.specs.Calls as calls
 use Rattle.moka_parts.specs.Registry.{IsTaken, FirstFree, RegistrationRefusal, RegistrationStep}

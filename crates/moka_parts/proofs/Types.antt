@@ -2,10 +2,10 @@
 pub use Rattle.moka_records.specs.declared.records.Member.{Member}
 pub use Rattle.moka_records.specs.declared.records.Record.{Record}
 pub use Rattle.moka_parts.specs.declared.records.Registered.{Registered}
-pub use Rattle.moka_parts.specs.declared.calls.Call.{Call}
-pub use Rattle.moka_parts.specs.declared.calls.Reply.{Reply}
-pub use Rattle.moka_parts.specs.declared.error.PredicateError.{PredicateError}
-pub use Rattle.moka_parts.specs.declared.error.PredicateRefused.{PredicateRefused}
+pub use Rattle.moka_types.specs.declared.calls.Call.{Call}
+pub use Rattle.moka_types.specs.declared.calls.Reply.{Reply}
+pub use Rattle.moka_types.specs.declared.error.PredicateError.{PredicateError}
+pub use Rattle.moka_types.specs.declared.error.PredicateRefused.{PredicateRefused}
 pub use Rattle.moka_parts.specs.declared.notification.RemovalCause.{RemovalCause}
 pub use Rattle.moka_records.specs.declared.instant.Instant.{Instant}
 pub use Rattle.moka_records.specs.Records.{Records}

@@ -8,19 +8,19 @@ use Rattle.moka_records.specs.declared.records.Operation.{Operation}
 use Rattle.moka_records.specs.declared.records.Operation.TheVariants.{Upsert, Removal}
 use Rattle.moka_records.specs.declared.records.ReadOperation.{ReadOperation}
 use Rattle.moka_records.specs.declared.records.ReadOperation.TheVariants.{Hit, Miss}
-use Rattle.moka_parts.specs.declared.calls.Ticket.{Ticket}
-use Rattle.moka_parts.specs.declared.error.OutOfMemory.{OutOfMemory}
-use Rattle.moka_parts.specs.declared.calls.Entry.{Entry}
-use Rattle.moka_parts.specs.declared.calls.KvEntry.{KvEntry}
-use Rattle.moka_parts.specs.declared.error.SendError.{SendError}
-use Rattle.moka_parts.specs.declared.error.SendError.TheVariants.{UnknownTicket, QueueFull}
-use Rattle.moka_parts.specs.declared.error.InsertError.{InsertError}
-use Rattle.moka_parts.specs.declared.error.InsertError.TheVariants as insert_error
-use Rattle.moka_parts.specs.declared.error.InsertRefused.{InsertRefused}
-use Rattle.moka_parts.specs.declared.error.PredicateError.{PredicateError}
-use Rattle.moka_parts.specs.declared.error.PredicateError.TheVariants as predicate_error
-use Rattle.moka_parts.specs.declared.error.PredicateRefused.{PredicateRefused}
-use Rattle.moka_parts.specs.declared.error.CapacityError.{CapacityError}
+use Rattle.moka_types.specs.declared.calls.Ticket.{Ticket}
+use Rattle.moka_types.specs.declared.error.OutOfMemory.{OutOfMemory}
+use Rattle.moka_types.specs.declared.calls.Entry.{Entry}
+use Rattle.moka_types.specs.declared.calls.KvEntry.{KvEntry}
+use Rattle.moka_types.specs.declared.error.SendError.{SendError}
+use Rattle.moka_types.specs.declared.error.SendError.TheVariants.{UnknownTicket, QueueFull}
+use Rattle.moka_types.specs.declared.error.InsertError.{InsertError}
+use Rattle.moka_types.specs.declared.error.InsertError.TheVariants as insert_error
+use Rattle.moka_types.specs.declared.error.InsertRefused.{InsertRefused}
+use Rattle.moka_types.specs.declared.error.PredicateError.{PredicateError}
+use Rattle.moka_types.specs.declared.error.PredicateError.TheVariants as predicate_error
+use Rattle.moka_types.specs.declared.error.PredicateRefused.{PredicateRefused}
+use Rattle.moka_types.specs.declared.error.CapacityError.{CapacityError}
 use Rattle.moka_parts.specs.Notices.{Notice, when_listening}
 use Rattle.moka_records.specs.Records.{record_of_key, with_record}
 use Rattle.moka_parts.specs.State.{State, Settings, Events, is_disabled}

@@ -1,9 +1,9 @@
 -- What callers are handed: clones of what the reference cache answers, as the type of what is cloned says what a clone
 -- is.
 use Rattle.std.specs.Prelude.{◌≡◌, ◌⊎◌, List, [], Option, Some, None, Result, Ok, Err}
-use Rattle.moka_parts.specs.declared.calls.Entry.{Entry}
-use Rattle.moka_parts.specs.declared.calls.KvEntry.{KvEntry}
-use Rattle.moka_parts.specs.declared.error.OutOfMemory.{OutOfMemory}
+use Rattle.moka_types.specs.declared.calls.Entry.{Entry}
+use Rattle.moka_types.specs.declared.calls.KvEntry.{KvEntry}
+use Rattle.moka_types.specs.declared.error.OutOfMemory.{OutOfMemory}
 use Rattle.moka_records.specs.declared.instant.Instant.{Instant}
 use Rattle.moka_parts.specs.Calls.{NotifyStep}
 use Rattle.moka_parts.specs.Notices.{Notice}

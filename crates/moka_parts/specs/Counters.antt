@@ -1,6 +1,6 @@
 -- What a cache counts of its look-ups.
 use Rattle.std.specs.Prelude.{ℕ, ◌+◌, min, List, [], ◌∷◌, Option, Some, None, Result, Ok, Err}
-use Rattle.moka_parts.specs.declared.error.OutOfMemory.{OutOfMemory}
+use Rattle.moka_types.specs.declared.error.OutOfMemory.{OutOfMemory}
 use Rattle.moka_records.specs.Time.{greatest}
 use Rattle.moka_parts.specs.declared.stats.Stats.{Stats}
 

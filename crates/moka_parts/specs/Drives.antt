@@ -1,7 +1,7 @@
 -- What is promised of a list of calls.
 use Rattle.std.specs.Prelude.{◌≡◌, true, ◌⊎◌, List}
-use Rattle.moka_parts.specs.declared.calls.Call.{Call}
-use Rattle.moka_parts.specs.declared.calls.Reply.{Reply}
+use Rattle.moka_types.specs.declared.calls.Call.{Call}
+use Rattle.moka_types.specs.declared.calls.Reply.{Reply}
 use Rattle.moka_parts.specs.State.{Meaning, keeps_write_list}
 use Rattle.moka_parts.specs.Order.{IsInOrder}
 use Rattle.moka_parts.specs.Runs.{Engine, Step, AreSteps, AreOrderly, MakesCalls, PromisedRun, OrderlyRun, IsEmpty}

@@ -1,4 +1,3 @@
-pub mod Policy
 pub mod Notices
 pub mod Records
 pub mod Surroundings
@@ -29,9 +28,10 @@ pub mod Runs
 pub mod Listed
 pub mod Laws
 pub mod Drives
-pub mod Texts
 pub mod KeyTests
 pub mod Counters
+pub use Rattle.moka_types.specs.Policy
+pub use Rattle.moka_types.specs.Texts
 pub use Rattle.moka_records.specs.Time
 pub use Rattle.moka_records.specs.Hashing
 pub use Rattle.moka_records.specs.RecordParts

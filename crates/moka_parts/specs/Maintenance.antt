@@ -4,7 +4,7 @@ use Rattle.std.specs.List.{list_any}
 use Rattle.std.specs.FinMap as finite
 use Rattle.moka_parts.specs.declared.notification.RemovalCause.{RemovalCause}
 use Rattle.moka_parts.specs.declared.notification.RemovalCause.TheVariants.{Expired, Explicit, Replaced, Size}
-use Rattle.moka_parts.specs.declared.policy.EvictionPolicy.{EvictionPolicy}
+use Rattle.moka_types.specs.declared.policy.EvictionPolicy.{EvictionPolicy}
 use Rattle.moka_records.specs.declared.instant.Instant.{Instant}
 use Rattle.moka_records.specs.declared.records.Record.{Record}
 use Rattle.moka_parts.specs.declared.records.Registered.{Registered}

@@ -2,13 +2,13 @@
 use Rattle.std.specs.Prelude.{◌≡◌, ℕ, Bool, true, false, ◌==◌, ◌<◌, ◌≤◌, List, [], ◌∷◌, ◌++◌, length, map, filter, filter_map, Option, Some, None, option_map, option_and_then, Contains, slice_get, if◌then◌else◌, ⊤}
 use Rattle.std.specs.List.Sorted.{IsNonDecreasing, IsStrictlyIncreasing}
 use Rattle.std.specs.FinMap.{get, entries, contains_key}
-use Rattle.moka_parts.specs.declared.policy.EvictionPolicy.{EvictionPolicy}
+use Rattle.moka_types.specs.declared.policy.EvictionPolicy.{EvictionPolicy}
 use Rattle.moka_records.specs.declared.records.Record.{Record}
 use Rattle.moka_records.specs.declared.records.Ticketed.{Ticketed}
 use Rattle.moka_records.specs.declared.records.Operation.{Operation}
 use Rattle.moka_records.specs.declared.records.Operation.TheVariants.{Upsert, Removal}
-use Rattle.moka_parts.specs.declared.calls.Call.{Call}
-use Rattle.moka_parts.specs.declared.calls.Call.TheVariants as call
+use Rattle.moka_types.specs.declared.calls.Call.{Call}
+use Rattle.moka_types.specs.declared.calls.Call.TheVariants as call
 pub use Rattle.moka_records.specs.Records.{IsListOf}
 use Rattle.moka_records.specs.Records.{Records, is_settled, without_number, number_to_back, without_numbers, entered_by}
 use Rattle.moka_parts.specs.State.{State, Contents, keeps_write_list}

@@ -4,9 +4,9 @@ use Rattle.std.specs.List.{AllByRecursion}
 use Rattle.uuid.specs.declared.Uuid.{Uuid}
 use Rattle.moka_records.specs.declared.instant.Instant.{Instant}
 use Rattle.moka_parts.specs.declared.records.Registered.{Registered}
-use Rattle.moka_parts.specs.declared.error.PredicateError.{PredicateError}
-use Rattle.moka_parts.specs.declared.error.PredicateError.TheVariants.{InvalidationClosuresDisabled, NoFreeId, OutOfMemory}
-use Rattle.moka_parts.specs.declared.error.PredicateRefused.{PredicateRefused}
+use Rattle.moka_types.specs.declared.error.PredicateError.{PredicateError}
+use Rattle.moka_types.specs.declared.error.PredicateError.TheVariants.{InvalidationClosuresDisabled, NoFreeId, OutOfMemory}
+use Rattle.moka_types.specs.declared.error.PredicateRefused.{PredicateRefused}
 use Rattle.moka_parts.specs.Surroundings.{Leads}
 
 -- so many identifiers are asked for at most

@@ -1,29 +1,16 @@
 -- Entries that are put back with the moments and the expiry that they had.
-use Rattle.std.specs.Prelude.{◌≡◌, ℕ, Bool, true, false, ◌&&◌, ◌+◌, not, List, codes, None, Result, Ok, Err, is_some}
-use Rattle.moka_parts.specs.declared.calls.Ticket.{Ticket}
-use Rattle.moka_parts.specs.declared.error.InsertError.{InsertError}
-use Rattle.moka_parts.specs.declared.error.InsertError.TheVariants as insert_error
+pub use Rattle.moka_types.specs.Restores.{restore_text, restore_error}
+use Rattle.std.specs.Prelude.{◌≡◌, ℕ, Bool, true, false, ◌&&◌, ◌+◌, not, None, Result, Ok, Err, is_some}
+use Rattle.moka_types.specs.declared.calls.Ticket.{Ticket}
 use Rattle.moka_records.specs.declared.records.Operation.TheVariants.{Upsert}
 use Rattle.moka_records.specs.declared.records.Record.{Record}
 use Rattle.moka_parts.specs.Calls.{Weighs, are_numbers_used_up, handing_out}
 use Rattle.moka_records.specs.Records.{record_of_key, with_record}
 use Rattle.moka_parts.specs.State.{State}
-use Rattle.moka_parts.specs.declared.restores.Restored.{Restored}
-use Rattle.moka_parts.specs.declared.restores.RestoreError.{RestoreError}
-use Rattle.moka_parts.specs.declared.restores.RestoreError.TheVariants.{KeyPresent, NoExpiry, NumbersUsedUp, OutOfMemory}
-use Rattle.moka_parts.specs.declared.restores.RestoreRefused.{RestoreRefused}
-
--- what is printed of a reason, as bytes
-abbrev pub restore_text : RestoreError → List ℕ
-restore_text KeyPresent = codes "The key has an entry"
-restore_text NoExpiry = codes "The cache has no expiry for single entries"
-restore_text NumbersUsedUp = codes "All tickets are used up"
-restore_text OutOfMemory = codes "Out of memory"
-
--- the reason for which room for an insert is refused
-abbrev pub restore_error : InsertError → RestoreError
-restore_error insert_error.NumbersUsedUp = NumbersUsedUp
-restore_error insert_error.OutOfMemory = OutOfMemory
+use Rattle.moka_types.specs.declared.restores.Restored.{Restored}
+use Rattle.moka_types.specs.declared.restores.RestoreError.{RestoreError}
+use Rattle.moka_types.specs.declared.restores.RestoreError.TheVariants.{KeyPresent, NoExpiry, NumbersUsedUp, OutOfMemory}
+use Rattle.moka_types.specs.declared.restores.RestoreRefused.{RestoreRefused}
 
 -- the entry has an expiry of its own, and the cache has none set
 abbrev pub is_unsupported : {K V X P W : Type 0} → State K V X P W → Restored K V → Bool

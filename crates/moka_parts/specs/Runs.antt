@@ -5,10 +5,10 @@ use Rattle.std.specs.FinMap.{len, empty}
 use Rattle.uuid.specs.declared.Uuid.{Uuid}
 use Rattle.moka_parts.specs.declared.notification.RemovalCause.{RemovalCause}
 use Rattle.moka_records.specs.declared.instant.Instant.{Instant}
-use Rattle.moka_parts.specs.declared.calls.Call.{Call}
-use Rattle.moka_parts.specs.declared.calls.Call.TheVariants as call
-use Rattle.moka_parts.specs.declared.calls.Reply.{Reply}
-use Rattle.moka_parts.specs.declared.calls.Reply.TheVariants as reply
+use Rattle.moka_types.specs.declared.calls.Call.{Call}
+use Rattle.moka_types.specs.declared.calls.Call.TheVariants as call
+use Rattle.moka_types.specs.declared.calls.Reply.{Reply}
+use Rattle.moka_types.specs.declared.calls.Reply.TheVariants as reply
 use Rattle.moka_parts.specs.Notices.{Notice}
 use Rattle.moka_parts.specs.State.{State, Meaning, Events, is_disabled}
 use Rattle.moka_parts.specs.Maintenance.{Terms, Course, RunsWith, MaintenanceRun}

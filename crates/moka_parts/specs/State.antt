@@ -3,14 +3,14 @@ use Rattle.std.specs.Prelude.{ℕ, Bool, false, ◌==◌, ◌||◌, List, [], le
 use Rattle.std.specs.FinMap.{empty}
 use Rattle.uuid.specs.declared.Uuid.{Uuid}
 use Rattle.moka_parts.specs.declared.notification.RemovalCause.{RemovalCause}
-use Rattle.moka_parts.specs.declared.policy.EvictionPolicy.{EvictionPolicy}
+use Rattle.moka_types.specs.declared.policy.EvictionPolicy.{EvictionPolicy}
 use Rattle.moka_records.specs.declared.instant.Instant.{Instant}
 use Rattle.moka_records.specs.declared.records.Member.{Member}
 use Rattle.moka_records.specs.declared.records.Ticketed.{Ticketed}
 use Rattle.moka_records.specs.declared.records.ReadOperation.{ReadOperation}
 use Rattle.moka_parts.specs.declared.records.Registered.{Registered}
 use Rattle.moka_records.specs.Time.{greatest}
-use Rattle.moka_parts.specs.Policy.{Limits}
+use Rattle.moka_types.specs.Policy.{Limits}
 use Rattle.moka_records.specs.Records.{Records, Operations, total_weight}
 use Rattle.moka_parts.specs.Notices.{Notice}
 use Rattle.moka_parts.specs.Frequency.{Table}

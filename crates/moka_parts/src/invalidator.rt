@@ -6,6 +6,7 @@ ghost use Rattle.moka_parts.specs.declared.records.Registered.{Registered};
 ghost use Rattle.moka_parts.specs.Visibility.{Covers, SomeCovers, NoneCovers, FirstCovers};
 ghost use Rattle.moka_parts.specs.Registry.{IsTaken, AsksForFree, Registers};
 
+pub use crate::calls::PredicateId;
 use crate::closures::PredicateFn;
 pub use crate::error::PredicateError;
 use crate::error::PredicateRefused;
@@ -14,13 +15,9 @@ use crate::record_ref::RecordRef;
 use crate::records::Registered;
 use std::alloc::Global;
 use std::marker::Model;
-use uuid::Uuid;
 
 // At most so many identifiers are asked for.
 const MAX_RETRY: usize = 1_000;
-
-/// Names a registered predicate. moka: `sync::PredicateId`.
-pub type PredicateId = Uuid;
 
 /// Gives identifiers, perhaps the same more than once.
 pub trait IdSource {

@@ -1,10 +1,10 @@
 -- What comes of the calls of a script: a run of the reference cache.
 use Rattle.std.specs.Prelude.{◌≡◌, ℕ, ◌&&◌, nat_eq, nat_le, List, map, Option, unwrap_or}
 use Rattle.std.specs.Int.{w128, to_be_bytes}
-use Rattle.moka_parts.specs.declared.calls.Reply.{Reply}
-use Rattle.moka_parts.specs.declared.policy.EvictionPolicy.{EvictionPolicy}
-use Rattle.moka_parts.specs.declared.policy.EvictionPolicy.TheVariants.{TinyLfu}
-use Rattle.moka_parts.specs.Policy.{Expirations}
+use Rattle.moka_types.specs.declared.calls.Reply.{Reply}
+use Rattle.moka_types.specs.declared.policy.EvictionPolicy.{EvictionPolicy}
+use Rattle.moka_types.specs.declared.policy.EvictionPolicy.TheVariants.{TinyLfu}
+use Rattle.moka_types.specs.Policy.{Expirations}
 use Rattle.moka_parts.specs.State.{State, Meaning, new_state}
 use Rattle.moka_parts.specs.Housekeeping.{new_housekeeping}
 use Rattle.moka_parts.specs.Runs.{Step, calls_of, replies_of, notices_of, readings_of, ids_of, last_state, AreSteps, Leads, PromisedRun}

@@ -1,8 +1,8 @@
 -- Calls with entries put back among them keep what always holds.
 use Rattle.std.proofs.Common.{refl, ℕ, List, [], ◌∷◌, ◌++◌, Result, Ok, Err, ap, sym, subst, inl, inr}
 use Rattle.std.specs.Cmp.{IsEquivalence}
-use Rattle.moka_parts.specs.declared.calls.Call.{Call}
-use Rattle.moka_parts.specs.declared.calls.Reply.{Reply}
+use Rattle.moka_types.specs.declared.calls.Call.{Call}
+use Rattle.moka_types.specs.declared.calls.Reply.{Reply}
 use Rattle.moka_records.specs.declared.instant.Instant.{Instant}
 use Rattle.moka_parts.specs.Maintenance.{MaintenanceRun}
 use Rattle.moka_parts.specs.Runs.{AreSteps, Engine, PromisedRun}

@@ -2,7 +2,7 @@
 use Rattle.std.proofs.Common.{◌≡◌, refl, ℕ, Bool, true, false, ◌&&◌, List, [], ◌∷◌, Option, Some, None, option_map, ap, sym, subst, ◌∙◌, arith}
 use Rattle.std.specs.FinMap.{get, empty}
 use Rattle.std.proofs.lemmas.Option.{none-some, same_Some}
-use Rattle.moka_parts.specs.declared.calls.Reply.TheVariants as reply
+use Rattle.moka_types.specs.declared.calls.Reply.TheVariants as reply
 use Rattle.moka_records.specs.declared.instant.Instant.{Instant}
 use Rattle.moka_records.specs.declared.records.Operation.TheVariants.{Upsert}
 use Rattle.moka_records.specs.declared.records.Record.{Record}

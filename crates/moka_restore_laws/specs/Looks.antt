@@ -2,10 +2,10 @@
 use Rattle.std.specs.Prelude.{◌≡◌, ℕ, ◌≤◌, Bool, false, List, [], ◌∷◌, Some, None, Err, ◌⊎◌, ⊤}
 use Rattle.std.specs.FinMap.{get, empty}
 use Rattle.std.specs.List.{AllByRecursion, AllZip}
-use Rattle.moka_parts.specs.declared.calls.Call.{Call}
-use Rattle.moka_parts.specs.declared.calls.Call.TheVariants as call
-use Rattle.moka_parts.specs.declared.calls.Reply.{Reply}
-use Rattle.moka_parts.specs.declared.calls.Reply.TheVariants as reply
+use Rattle.moka_types.specs.declared.calls.Call.{Call}
+use Rattle.moka_types.specs.declared.calls.Call.TheVariants as call
+use Rattle.moka_types.specs.declared.calls.Reply.{Reply}
+use Rattle.moka_types.specs.declared.calls.Reply.TheVariants as reply
 use Rattle.moka_records.specs.declared.instant.Instant.{Instant}
 use Rattle.moka_records.specs.declared.records.Record.{Record}
 use Rattle.moka_parts.specs.Copies.{ClonesAreEqual}

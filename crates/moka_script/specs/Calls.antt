@@ -3,8 +3,8 @@ use Rattle.std.specs.Prelude.{ℕ, ◌/◌, ◌%◌, false, List, [], ◌∷◌,
 use Rattle.std.specs.Duration.{as_nanos}
 use Rattle.std.specs.declared.time.Duration.{Duration}
 use Rattle.std.specs.Str.{bytes_eq}
-use Rattle.moka_parts.specs.declared.calls.Call.{Call}
-use Rattle.moka_parts.specs.declared.calls.Call.TheVariants.{Insert, Send, Get, GetUnrecorded, Scan, Contains, Key, Remove, InvalidateAll, InvalidateIf, Run, RunIfDue, Keys, Report, Pending, SetCapacity}
+use Rattle.moka_types.specs.declared.calls.Call.{Call}
+use Rattle.moka_types.specs.declared.calls.Call.TheVariants.{Insert, Send, Get, GetUnrecorded, Scan, Contains, Key, Remove, InvalidateAll, InvalidateIf, Run, RunIfDue, Keys, Report, Pending, SetCapacity}
 use Rattle.moka_records.specs.declared.instant.Instant.{Instant}
 use Rattle.moka_script.specs.declared.key_range.KeyRange.{KeyRange}
 use Rattle.moka_script.specs.declared.script.calls.LineCall.{LineCall}

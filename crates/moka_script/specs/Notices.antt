@@ -1,7 +1,7 @@
 -- What a script's listener keeps, and how it is printed.
 use Rattle.std.specs.Prelude.{◌≡◌, ℕ, Bool, true, false, nat_lt, List, [], ◌∷◌, ◌++◌, length, count_by, Option, Some, None, codes, decimal, if◌then◌else◌}
 use Rattle.std.specs.List.{flat_map}
-use Rattle.moka_parts.specs.declared.calls.Call.TheVariants.{Insert, Remove}
+use Rattle.moka_types.specs.declared.calls.Call.TheVariants.{Insert, Remove}
 use Rattle.moka_parts.specs.declared.notification.RemovalCause.{RemovalCause}
 use Rattle.moka_parts.specs.declared.notification.RemovalCause.TheVariants.{Expired, Explicit, Replaced, Size}
 use Rattle.moka_parts.specs.Notices.{Notice}

@@ -1,8 +1,8 @@
 -- What the settings of a script say.
 use Rattle.std.specs.Prelude.{ℕ, Bool, ◌==◌, true, false, List, [], ◌∷◌, Option, Some, None, option_map, codes, if◌then◌else◌}
 use Rattle.std.specs.Str.{bytes_eq}
-use Rattle.moka_parts.specs.declared.policy.EvictionPolicy.{EvictionPolicy}
-use Rattle.moka_parts.specs.declared.policy.EvictionPolicy.TheVariants.{TinyLfu, Lru}
+use Rattle.moka_types.specs.declared.policy.EvictionPolicy.{EvictionPolicy}
+use Rattle.moka_types.specs.declared.policy.EvictionPolicy.TheVariants.{TinyLfu, Lru}
 use Rattle.moka_script.specs.declared.rules.Question.{Question}
 use Rattle.moka_script.specs.declared.rules.Question.TheVariants.{Create, Read, Update}
 use Rattle.moka_script.specs.declared.rules.Rule.{Rule}

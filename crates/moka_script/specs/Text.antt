@@ -4,17 +4,17 @@ use Rattle.std.specs.List.{flat_map}
 use Rattle.std.specs.List.Sorted.{IsPermutation, IsNonDecreasing}
 use Rattle.std.specs.declared.vec.Vec.{Vec}
 use Rattle.std.specs.declared.alloc.Global.{Global}
-use Rattle.moka_parts.specs.declared.calls.KvEntry.{KvEntry}
-use Rattle.moka_parts.specs.declared.calls.Ticket.{Ticket}
-use Rattle.moka_parts.specs.declared.error.OutOfMemory.{OutOfMemory}
-use Rattle.moka_parts.specs.declared.calls.Reply.{Reply}
-use Rattle.moka_parts.specs.declared.calls.Reply.TheVariants.{Insert, Disabled, Send, Get, GetUnrecorded, Contains, Key, Scan, Remove, InvalidateAll, InvalidateIf, Run, RunIfDue, DisableAutoRun, Keys, Report, Pending, SetCapacity}
-use Rattle.moka_parts.specs.declared.error.InsertError.{InsertError}
-use Rattle.moka_parts.specs.declared.error.InsertError.TheVariants as insert_error
-use Rattle.moka_parts.specs.declared.error.SendError.{SendError}
-use Rattle.moka_parts.specs.declared.error.SendError.TheVariants.{UnknownTicket, QueueFull}
-use Rattle.moka_parts.specs.declared.error.PredicateError.{PredicateError}
-use Rattle.moka_parts.specs.declared.error.PredicateError.TheVariants as predicate_error
+use Rattle.moka_types.specs.declared.calls.KvEntry.{KvEntry}
+use Rattle.moka_types.specs.declared.calls.Ticket.{Ticket}
+use Rattle.moka_types.specs.declared.error.OutOfMemory.{OutOfMemory}
+use Rattle.moka_types.specs.declared.calls.Reply.{Reply}
+use Rattle.moka_types.specs.declared.calls.Reply.TheVariants.{Insert, Disabled, Send, Get, GetUnrecorded, Contains, Key, Scan, Remove, InvalidateAll, InvalidateIf, Run, RunIfDue, DisableAutoRun, Keys, Report, Pending, SetCapacity}
+use Rattle.moka_types.specs.declared.error.InsertError.{InsertError}
+use Rattle.moka_types.specs.declared.error.InsertError.TheVariants as insert_error
+use Rattle.moka_types.specs.declared.error.SendError.{SendError}
+use Rattle.moka_types.specs.declared.error.SendError.TheVariants.{UnknownTicket, QueueFull}
+use Rattle.moka_types.specs.declared.error.PredicateError.{PredicateError}
+use Rattle.moka_types.specs.declared.error.PredicateError.TheVariants as predicate_error
 use Rattle.uuid.specs.Text.{lower, hyphenated_text}
 use Rattle.moka_script.specs.Notices.{ScriptNotice, notice_lines}
 use Rattle.moka_script.specs.declared.print.Total.{Total}

@@ -1,7 +1,7 @@
 -- What was made was made where listeners may hear of clones and any identifier may be given.
 use Rattle.std.proofs.Common.{List, inl}
-use Rattle.moka_parts.specs.declared.calls.Call.{Call}
-use Rattle.moka_parts.specs.declared.calls.Reply.{Reply}
+use Rattle.moka_types.specs.declared.calls.Call.{Call}
+use Rattle.moka_types.specs.declared.calls.Reply.{Reply}
 use Rattle.moka_parts.specs.Runs.{Engine}
 use Rattle.moka_parts.specs.State.{Meaning}
 use Rattle.moka_calls.specs.Synchronous.{Made, hears_clones}

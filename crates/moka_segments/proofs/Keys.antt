@@ -3,8 +3,8 @@ use Rattle.std.proofs.Common.{◌≡◌, ℕ, Bool, List, [], ◌∷◌, Option,
 use Rattle.std.specs.FinMap.{get, insert, remove}
 use Rattle.std.proofs.lemmas.Option.{same_Some}
 use Rattle.moka_records.specs.declared.records.Record.{Record}
-use Rattle.moka_parts.specs.declared.calls.Call.{Call}
-use Rattle.moka_parts.specs.declared.calls.Reply.{Reply}
+use Rattle.moka_types.specs.declared.calls.Call.{Call}
+use Rattle.moka_types.specs.declared.calls.Reply.{Reply}
 use Rattle.moka_parts.specs.Listed.{ListedRun, AreListedSteps}
 use Rattle.moka_parts.specs.Maintenance.{Terms, Course}
 use Rattle.moka_parts.specs.Notices.{Notice}

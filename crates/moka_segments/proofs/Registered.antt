@@ -2,7 +2,7 @@
 use Rattle.std.proofs.Common.{◌≡◌, ℕ, List, [], ◌∷◌, ◌++◌, length, take, drop, Result, Ok, Err, ◌⊎◌, inl, inr, refl, ap, sym, subst, ◌∙◌, append_assoc, append-nil, arith}
 use Rattle.std.specs.List.{IsFirstAndRest}
 use Rattle.uuid.specs.declared.Uuid.{Uuid}
-use Rattle.moka_parts.specs.declared.error.PredicateRefused.{PredicateRefused}
+use Rattle.moka_types.specs.declared.error.PredicateRefused.{PredicateRefused}
 use Rattle.moka_parts.specs.declared.notification.RemovalCause.{RemovalCause}
 use Rattle.moka_records.specs.declared.instant.Instant.{Instant}
 use Rattle.moka_calls.specs.Synchronous.{Synchronous}

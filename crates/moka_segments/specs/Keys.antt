@@ -1,8 +1,8 @@
 -- Which keys the segments hold.
 use Rattle.std.specs.Prelude.{◌≡◌, ℕ, Bool, true, List, [], ◌∷◌, Some}
 use Rattle.std.specs.FinMap.{empty, get}
-use Rattle.moka_parts.specs.declared.calls.Call.{Call}
-use Rattle.moka_parts.specs.declared.calls.Call.TheVariants as call
+use Rattle.moka_types.specs.declared.calls.Call.{Call}
+use Rattle.moka_types.specs.declared.calls.Call.TheVariants as call
 use Rattle.moka_records.specs.declared.records.Record.{Record}
 use Rattle.moka_records.specs.Records.{Records}
 use Rattle.moka_calls.specs.Synchronous.{Synchronous}

@@ -5,7 +5,7 @@ use Rattle.std.specs.declared.cmp.PartialEq as partial_eq
 use Rattle.std.specs.declared.hash.BuildHasher as build_hasher
 use Rattle.std.specs.declared.hash.Hash as hash
 use Rattle.std.specs.declared.hash.Hasher as hasher
-use Rattle.moka_parts.specs.declared.policy.Expiry as expiry
+use Rattle.moka_types.specs.declared.policy.Expiry as expiry
 use Rattle.moka_calls.specs.Synchronous.{Synchronous}
 use Rattle.moka_cache.specs.contracts.cache.Cache.{the_row as cache_row}
 use Rattle.moka_segments.specs.Segmented.{Segmented}

@@ -2,8 +2,8 @@
 use Rattle.std.specs.Prelude.{◌≡◌, List, [], ◌∷◌, Result, Ok, Err, ◌⊎◌, Vec}
 use Rattle.std.specs.Global.{Global}
 use Rattle.uuid.specs.declared.Uuid.{Uuid}
-use Rattle.moka_parts.specs.declared.error.PredicateError.TheVariants as predicate_error
-use Rattle.moka_parts.specs.declared.error.PredicateRefused.{PredicateRefused}
+use Rattle.moka_types.specs.declared.error.PredicateError.TheVariants as predicate_error
+use Rattle.moka_types.specs.declared.error.PredicateRefused.{PredicateRefused}
 use Rattle.moka_parts.specs.declared.notification.RemovalCause.{RemovalCause}
 use Rattle.moka_records.specs.declared.instant.Instant.{Instant}
 use Rattle.moka_parts.specs.Calls.{InvalidateStep, only_ids}

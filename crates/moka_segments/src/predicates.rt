@@ -25,7 +25,7 @@ pub struct RegisterRefused<P> {
 
 impl<P> fmt::Display for RegisterRefused<P> {
     ghost use Rattle.std.specs.Prelude.{Some};
-    ghost use Rattle.moka_parts.specs.Texts.{predicate_text};
+    ghost use Rattle.moka_types.specs.Texts.{predicate_text};
 
     ghost output = { λ refused. Some (predicate_text refused.refused.error) };
 

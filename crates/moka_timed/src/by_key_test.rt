@@ -4,7 +4,7 @@ ghost use Rattle.moka_parts.specs.Calls.{ContainsStep};
 ghost use Rattle.moka_parts.specs.KeyTests.{ContainsByStep};
 ghost use Rattle.moka_records.specs.KeyTests.{record_by};
 ghost use Rattle.moka_records.specs.Records.{record_of_key};
-ghost use Rattle.moka_parts.specs.declared.error.OutOfMemory.{OutOfMemory};
+ghost use Rattle.moka_types.specs.declared.error.OutOfMemory.{OutOfMemory};
 ghost use Rattle.moka_records.specs.declared.records.Record.{Record};
 ghost use Rattle.moka_parts.specs.Counters.{after_look_up};
 ghost use Rattle.moka_records.specs.Hashing.{key_hash};

@@ -5,6 +5,7 @@ pub mod moka_structures;
 pub mod moka_tickets;
 pub mod moka_wheel;
 pub mod moka_records;
+pub mod moka_types;
 pub mod moka_parts;
 pub mod moka_laws;
 pub mod moka_sketch;

@@ -4,7 +4,7 @@ ghost use Rattle.moka_parts.specs.Calls.{ContainsStep};
 ghost use Rattle.moka_parts.specs.KeyTests.{ContainsByStep};
 ghost use Rattle.moka_records.specs.KeyTests.{record_by};
 ghost use Rattle.moka_records.specs.Records.{record_of_key};
-ghost use Rattle.moka_parts.specs.declared.error.OutOfMemory.{OutOfMemory};
+ghost use Rattle.moka_types.specs.declared.error.OutOfMemory.{OutOfMemory};
 ghost use Rattle.moka_records.specs.Hashing.{key_hash};
 ghost use Rattle.moka_cache.specs.Keyed.{GetsBy, RemovesBy};
 ghost use Rattle.moka_calls.specs.Synchronous.{Made, Makes, RemovesEntry, hears_clones, invalidated, meaning_of, removed, taken_out};

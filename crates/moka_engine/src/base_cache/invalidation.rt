@@ -1,7 +1,7 @@
 //! Invalidation by predicates.
 ghost use Rattle.moka_parts.specs.Surroundings.{Leads};
-ghost use Rattle.moka_parts.specs.declared.calls.Call.TheVariants as call;
-ghost use Rattle.moka_parts.specs.declared.calls.Reply.TheVariants as reply;
+ghost use Rattle.moka_types.specs.declared.calls.Call.TheVariants as call;
+ghost use Rattle.moka_types.specs.declared.calls.Reply.TheVariants as reply;
 ghost use Rattle.moka_engine.specs.Makes.{Makes, meaning};
 
 use super::BaseCache;

@@ -10,8 +10,8 @@ ghost use Rattle.moka_parts.specs.Settling.{IsValid, leaves_more_idle};
 ghost use Rattle.moka_parts.specs.State.{is_disabled};
 ghost use Rattle.moka_parts.specs.Surroundings.{Leads};
 ghost use Rattle.moka_records.specs.Time.{greatest};
-ghost use Rattle.moka_parts.specs.declared.calls.Call.TheVariants as call;
-ghost use Rattle.moka_parts.specs.declared.calls.Reply.TheVariants as reply;
+ghost use Rattle.moka_types.specs.declared.calls.Call.TheVariants as call;
+ghost use Rattle.moka_types.specs.declared.calls.Reply.TheVariants as reply;
 ghost use Rattle.moka_records.specs.declared.records.ReadOperation.TheVariants.{Miss};
 ghost use Rattle.moka_engine.specs.Makes.{Makes, Takes, meaning};
 

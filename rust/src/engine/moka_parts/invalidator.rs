@@ -3,6 +3,7 @@
 //! moka: `sync::invalidator`.
 use crate::support::prelude::*;
 
+pub use crate::engine::moka_parts::calls::PredicateId;
 use crate::engine::moka_parts::closures::PredicateFn;
 pub use crate::engine::moka_parts::error::PredicateError;
 use crate::engine::moka_parts::error::PredicateRefused;
@@ -10,13 +11,9 @@ use crate::engine::moka_parts::policy::Instant;
 use crate::engine::moka_parts::record_ref::RecordRef;
 use crate::engine::moka_parts::records::Registered;
 use crate::support::alloc::Global;
-use crate::support::uuid::Uuid;
 
 // At most so many identifiers are asked for.
 const MAX_RETRY: usize = 1_000;
-
-/// Names a registered predicate. moka: `sync::PredicateId`.
-pub type PredicateId = Uuid;
 
 /// Gives identifiers, perhaps the same more than once.
 pub trait IdSource {

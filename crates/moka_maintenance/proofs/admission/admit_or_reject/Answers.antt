@@ -1,5 +1,5 @@
 use Rattle.std.proofs.Common.{refl, sym, ap, ◌∙◌}
-use Rattle.moka_parts.specs.declared.policy.EvictionPolicy.TheVariants.{TinyLfu, Lru}
+use Rattle.moka_types.specs.declared.policy.EvictionPolicy.TheVariants.{TinyLfu, Lru}
 use Rattle.moka_records.specs.Records.{has_room}
 use Rattle.moka_maintenance.specs.Steps.{contents_with}
 use Rattle.moka_maintenance.proofs.Fates.{applies-admitted, applies-rejected, applies-compared, newcomer-fits, newcomer-heavy, newcomer-by_policy}

@@ -1,7 +1,7 @@
 use Rattle.std.proofs.Common.{false, Some, ap, sym, ◌∙◌, ◌≡◌, ℕ, Bool, true, length, Option, Result, Ok, Err, OnOk, OnErr, if◌then◌else◌}
 use Rattle.moka_parts.specs.Frequency.{size_asked, table_length_for, Table, no_counts}
 use Rattle.moka_parts.specs.Maintenance.{is_sketch_due, with_sketch, length_of_new_table}
-use Rattle.moka_parts.specs.declared.policy.EvictionPolicy.{EvictionPolicy}
+use Rattle.moka_types.specs.declared.policy.EvictionPolicy.{EvictionPolicy}
 use Rattle.moka_records.specs.Records.{total_weight}
 use Rattle.moka_parts.specs.State.{Contents}
 use Rattle.moka_maintenance.specs.Steps.{contents_with}

@@ -1,6 +1,6 @@
 use Rattle.std.proofs.Common.{◌≡◌, Ok, Some}
 use Rattle.std.proofs.lemmas.List.Sorted.{IsNonDecreasingBy-from_sort}
-use Rattle.moka_parts.specs.declared.calls.Reply.TheVariants.{Keys}
+use Rattle.moka_types.specs.declared.calls.Reply.TheVariants.{Keys}
 use Rattle.moka_script.proofs.print.sort_keys_of.Goals as goal
 
 pub returns-in-Keys-Ok-Some : goal.returns-in-Keys-Ok-Some

@@ -1,6 +1,6 @@
 use Rattle.std.proofs.Common.{◌≡◌, false, ◌∙◌, refl, sym, subst, ℕ, Option, Some, None, Ok, Err}
 use Rattle.std.specs.Prelude.{IfSome, Result}
-use Rattle.moka_parts.specs.declared.error.OutOfMemory.{OutOfMemory}
+use Rattle.moka_types.specs.declared.error.OutOfMemory.{OutOfMemory}
 use Rattle.moka_records.specs.Hashing.{key_hash}
 use Rattle.moka_records.proofs.Options.{none_by_test}
 use Rattle.moka_calls.specs.declared.compute.CompResult.TheVariants.{StillNone, Unchanged}

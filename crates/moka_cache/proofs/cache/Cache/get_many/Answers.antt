@@ -1,6 +1,6 @@
 use Rattle.std.proofs.Common.{◌∙◌, ap, arith, rules, sym, refl, ℕ, [], ◌∷◌, ◌++◌, append_assoc, append-nil, length, map, inl, inr, Option, Ok, Err}
 use Rattle.std.proofs.lemmas.List.{map-append, nil_from_length}
-use Rattle.moka_parts.specs.declared.error.OutOfMemory.{OutOfMemory}
+use Rattle.moka_types.specs.declared.error.OutOfMemory.{OutOfMemory}
 use Rattle.moka_records.specs.Hashing.{key_hash}
 use Rattle.moka_parts.specs.Counters.{after_look_up, after_look_ups}
 use Rattle.moka_calls.specs.Many.{GetsItem}

@@ -1,6 +1,6 @@
 use Rattle.std.proofs.Common.{◌≡◌, ◌∙◌, ℕ, refl, subst, sym, Some, None, Result, Ok, Err, IfOk}
 use Rattle.std.proofs.lemmas.Option.{same_Some}
-use Rattle.moka_parts.specs.declared.error.OutOfMemory.{OutOfMemory}
+use Rattle.moka_types.specs.declared.error.OutOfMemory.{OutOfMemory}
 use Rattle.moka_records.specs.Hashing.{key_hash}
 use Rattle.moka_parts.specs.Counters.{after_look_up}
 use Rattle.moka_calls.specs.Given.{Sees}

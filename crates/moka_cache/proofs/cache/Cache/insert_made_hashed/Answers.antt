@@ -1,6 +1,6 @@
 use Rattle.std.proofs.Common.{refl, Ok, Err}
 use Rattle.std.proofs.lemmas.Result.{err_from_is_err_and}
-use Rattle.moka_parts.specs.declared.error.InsertError.TheVariants as insert_error
+use Rattle.moka_types.specs.declared.error.InsertError.TheVariants as insert_error
 use Rattle.moka_cache.proofs.Getting.{not_cloned, cloned, not_inserted}
 use Rattle.moka_cache.proofs.cache.Cache.insert_made_hashed.Goals as goal
 

@@ -1,5 +1,5 @@
 use Rattle.std.proofs.Common.{refl, ap}
-use Rattle.moka_parts.specs.declared.error.InsertError.TheVariants.{NumbersUsedUp}
+use Rattle.moka_types.specs.declared.error.InsertError.TheVariants.{NumbersUsedUp}
 use Rattle.moka_engine.proofs.EngineSteps.{without_room, still_set, whole-roomier}
 use Rattle.moka_engine.proofs.InsertSteps.{whole-updated, whole-inserted, update_refused, update_returns, new_refused, new_returns}
 use Rattle.moka_engine.proofs.base_cache.BaseCache.insert_hashed.Goals as goal

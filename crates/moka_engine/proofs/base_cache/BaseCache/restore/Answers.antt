@@ -1,6 +1,6 @@
 use Rattle.std.proofs.Common.{ℕ, refl, sym, ap, ◌∙◌}
 use Rattle.moka_records.proofs.Options.{none_by_test}
-use Rattle.moka_parts.specs.declared.error.InsertError.TheVariants.{NumbersUsedUp}
+use Rattle.moka_types.specs.declared.error.InsertError.TheVariants.{NumbersUsedUp}
 use Rattle.moka_records.specs.Hashing.{key_hash}
 use Rattle.moka_records.specs.Records.{record_of_key}
 use Rattle.moka_engine.proofs.EngineSteps.{without_room, whole-roomier}

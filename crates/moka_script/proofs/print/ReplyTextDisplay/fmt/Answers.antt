@@ -1,5 +1,5 @@
 use Rattle.std.proofs.Common.{rules, ◌≡◌}
-use Rattle.moka_parts.specs.declared.calls.Reply.TheVariants.{Report}
+use Rattle.moka_types.specs.declared.calls.Reply.TheVariants.{Report}
 use Rattle.moka_script.proofs.print.ReplyTextDisplay.fmt.Goals as goal
 
 pub returns-in-Report-clause-writes : goal.returns-in-Report-clause-writes

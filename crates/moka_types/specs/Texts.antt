@@ -1,15 +1,15 @@
 -- What is printed of errors and policies, as bytes.
 use Rattle.std.specs.Prelude.{ℕ, List, codes}
-use Rattle.moka_parts.specs.declared.error.SendError.{SendError}
-use Rattle.moka_parts.specs.declared.error.SendError.TheVariants.{UnknownTicket, QueueFull}
-use Rattle.moka_parts.specs.declared.error.InsertError.{InsertError}
-use Rattle.moka_parts.specs.declared.error.InsertError.TheVariants as insert_error
-use Rattle.moka_parts.specs.declared.error.PredicateError.{PredicateError}
-use Rattle.moka_parts.specs.declared.error.PredicateError.TheVariants as predicate_error
-use Rattle.moka_parts.specs.declared.error.CapacityError.{CapacityError}
-use Rattle.moka_parts.specs.declared.error.CapacityError.TheVariants.{ZeroCapacity}
-use Rattle.moka_parts.specs.declared.policy.EvictionPolicy.{EvictionPolicy}
-use Rattle.moka_parts.specs.declared.policy.EvictionPolicy.TheVariants.{TinyLfu, Lru}
+use Rattle.moka_types.specs.declared.error.SendError.{SendError}
+use Rattle.moka_types.specs.declared.error.SendError.TheVariants.{UnknownTicket, QueueFull}
+use Rattle.moka_types.specs.declared.error.InsertError.{InsertError}
+use Rattle.moka_types.specs.declared.error.InsertError.TheVariants as insert_error
+use Rattle.moka_types.specs.declared.error.PredicateError.{PredicateError}
+use Rattle.moka_types.specs.declared.error.PredicateError.TheVariants as predicate_error
+use Rattle.moka_types.specs.declared.error.CapacityError.{CapacityError}
+use Rattle.moka_types.specs.declared.error.CapacityError.TheVariants.{ZeroCapacity}
+use Rattle.moka_types.specs.declared.policy.EvictionPolicy.{EvictionPolicy}
+use Rattle.moka_types.specs.declared.policy.EvictionPolicy.TheVariants.{TinyLfu, Lru}
 
 -- of a refusal of memory
 abbrev pub out_of_memory_text : List ℕ

@@ -2,11 +2,14 @@
 ghost use Rattle.std.specs.Prelude.{◌≡◌, option_copied};
 
 use crate::error::{CapacityError, InsertRefused, OutOfMemory, PredicateRefused, SendError};
-use crate::invalidator::PredicateId;
 use crate::policy::Instant;
 use std::error::Error;
 use std::fmt;
 use std::time::Duration;
+use uuid::Uuid;
+
+/// Names a registered predicate. moka: `sync::PredicateId`.
+pub type PredicateId = Uuid;
 
 /// Names an operation that was handed out and waits to be sent.
 #[derive(Clone, Copy, Debug, PartialEq, Eq)]
@@ -274,7 +277,7 @@ pub struct DriveRefused<K, V, P> {
 
 impl<K, V, P> fmt::Display for DriveRefused<K, V, P> {
     ghost use Rattle.std.specs.Prelude.{Some};
-    ghost use Rattle.moka_parts.specs.Texts.{out_of_memory_text};
+    ghost use Rattle.moka_types.specs.Texts.{out_of_memory_text};
 
     ghost output = { λ _. Some out_of_memory_text };
 

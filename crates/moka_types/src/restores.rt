@@ -35,7 +35,7 @@ pub enum RestoreError {
 
 impl fmt::Display for RestoreError {
     ghost use Rattle.std.specs.Prelude.{Some};
-    ghost use Rattle.moka_parts.specs.Restores.{restore_text};
+    ghost use Rattle.moka_types.specs.Restores.{restore_text};
 
     ghost output = { λ error. Some (restore_text error) };
 
@@ -53,7 +53,7 @@ impl Error for RestoreError {}
 
 impl From<InsertError> for RestoreError {
     ghost use Rattle.std.specs.Prelude.{◌≡◌};
-    ghost use Rattle.moka_parts.specs.Restores.{restore_error};
+    ghost use Rattle.moka_types.specs.Restores.{restore_error};
 
     ghost from_gives = { λ error reason. reason ≡ restore_error error };
 
@@ -76,7 +76,7 @@ pub struct RestoreRefused<K, V> {
 
 impl<K, V> fmt::Display for RestoreRefused<K, V> {
     ghost use Rattle.std.specs.Prelude.{Some};
-    ghost use Rattle.moka_parts.specs.Restores.{restore_text};
+    ghost use Rattle.moka_types.specs.Restores.{restore_text};
 
     ghost output = { λ refused. Some (restore_text refused.error) };
 

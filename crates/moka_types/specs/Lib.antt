@@ -1,0 +1,3 @@
+pub mod Policy
+pub mod Restores
+pub mod Texts

@@ -1,0 +1,9 @@
+//! The front, by its public calls. One program, so that a cache of one key and value type is compiled once for all tests.
+
+mod examples;
+mod keys;
+mod notices;
+mod panics;
+mod random;
+mod sync;
+mod unsync;
