@@ -180,35 +180,49 @@ fn is_above(weight: Option<u32>, bound: Option<u64>) -> bool {
     }
 }
 
+impl FateText {
+    /// Why a key that was visible has no record any more, in words.
+    fn departure(self) -> &'static str {
+        if self.is_hit {
+            return "removed, to make room, or expired or invalidated through the hit";
+        }
+        // Nothing has to make room, so the run saw what the call's own moment does not show.
+        if self.leaving.capacity.is_none() {
+            return "removed, expired or invalidated at the moment of the run";
+        }
+        match self.before.applied {
+            Some(true) => "evicted, to make room",
+            _ => self.leaving.reason(self.before.weight),
+        }
+    }
+
+    /// That a key is visible as before, in words.
+    fn stay(self) -> &'static str {
+        match self.after.applied {
+            Some(true) => "kept",
+            _ => "kept, its last write is not applied",
+        }
+    }
+
+    /// That a key is hidden as before, in words.
+    fn hidden(self) -> &'static str {
+        match self.after.applied {
+            Some(true) => "still in the map",
+            _ => "still in the map until its last write is applied",
+        }
+    }
+}
+
 impl fmt::Display for FateText {
     fn fmt<W: fmt::Write>(&self, f: &mut fmt::Formatter<W>) -> fmt::Result {
-        let (before, after) = (SightText(self.before.sight), SightText(self.after.sight));
-        match (self.before.sight, self.after.sight) {
-            (Sight::Visible, Sight::Absent) if self.is_hit => {
-                f.write_str("removed, to make room, or expired or invalidated through the hit")
-            }
-            // Nothing has to make room, so the run saw what the call's own moment does not show.
-            (Sight::Visible, Sight::Absent) if self.leaving.capacity.is_none() => {
-                f.write_str("removed, expired or invalidated at the moment of the run")
-            }
-            (Sight::Visible, Sight::Absent) => f.write_str(match self.before.applied {
-                Some(true) => "evicted, to make room",
-                _ => self.leaving.reason(self.before.weight),
-            }),
-            (_, Sight::Absent) => write!(f, "removed, {before}"),
-            (Sight::Visible, Sight::Visible) => f.write_str(match self.after.applied {
-                Some(true) => "kept",
-                _ => "kept, its last write is not applied",
-            }),
+        let (before, after) = (self.before.sight, self.after.sight);
+        match (before, after) {
+            (Sight::Visible, Sight::Absent) => f.write_str(self.departure()),
+            (_, Sight::Absent) => write!(f, "removed, {}", SightText(before)),
+            (Sight::Visible, Sight::Visible) => f.write_str(self.stay()),
             (_, Sight::Visible) => f.write_str("visible again"),
-            (Sight::Visible, _) => write!(f, "hidden now, {after}"),
-            _ => match self.after.applied {
-                Some(true) => write!(f, "still in the map, {after}"),
-                _ => write!(
-                    f,
-                    "still in the map until its last write is applied, {after}"
-                ),
-            },
+            (Sight::Visible, _) => write!(f, "hidden now, {}", SightText(after)),
+            _ => write!(f, "{}, {}", self.hidden(), SightText(after)),
         }
     }
 }

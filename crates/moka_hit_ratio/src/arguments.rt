@@ -140,11 +140,22 @@ impl Request {
             "--title" => return Ok(Place::Title),
             "--optimum" => self.has_optimum = true,
             "--help" => self.is_help = true,
-            _ if word.starts_with("--") => bail!("there is no option {word:?}; --help shows all"),
-            _ if self.capacities.is_empty() => self.capacities = numbers(alloc, word)?,
-            _ => self.traces.push(String::from_str(alloc, word)?)?,
+            _ => self.take_name(alloc, word)?,
         }
         Ok(Place::Any)
+    }
+
+    /// Takes the capacities, or a trace behind them.
+    fn take_name(&mut self, alloc: Global, word: &str) -> Result<()> {
+        if word.starts_with("--") {
+            bail!("there is no option {word:?}; --help shows all");
+        }
+        if self.capacities.is_empty() {
+            self.capacities = numbers(alloc, word)?;
+        } else {
+            self.traces.push(String::from_str(alloc, word)?)?;
+        }
+        Ok(())
     }
 
     /// Checks what the words say together, and brings the capacities into order.
@@ -179,9 +190,9 @@ pub fn named_trace(name: &str) -> Result<Origin<'_>> {
         return no_trace(name);
     };
     match kind {
-        "loop" => Ok(Origin::Made(Shape::Loop, count(rest)?)),
-        "scan" => Ok(Origin::Made(Shape::Scan, count(rest)?)),
-        "moving" => Ok(Origin::Made(Shape::Moving, count(rest)?)),
+        "loop" => made(Shape::Loop, rest),
+        "scan" => made(Shape::Scan, rest),
+        "moving" => made(Shape::Moving, rest),
         "zipf" => zipf(rest),
         "keys" => Ok(Origin::Read(Format::Keys, rest)),
         "timed" => Ok(Origin::Read(Format::Timed, rest)),
@@ -205,7 +216,12 @@ fn zipf(text: &str) -> Result<Origin<'_>> {
     if hundredths == 0 || hundredths >= 100 {
         bail!("an exponent is from 1 to 99 hundredths");
     }
-    Ok(Origin::Made(Shape::Zipf(hundredths), count(keys)?))
+    made(Shape::Zipf(hundredths), keys)
+}
+
+/// A made trace, and over how many keys.
+fn made(shape: Shape, keys: &str) -> Result<Origin<'_>> {
+    Ok(Origin::Made(shape, count(keys)?))
 }
 
 /// A number above 0, of 32 bits.

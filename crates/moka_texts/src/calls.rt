@@ -2,7 +2,7 @@
 use crate::notes::Words;
 use crate::report::{Left, Refused};
 use moka_cache::{GetWithRefused, NotTold, Stats};
-use moka_engine::InsertRefused;
+use moka_engine::{InsertRefused, OutOfMemory};
 
 /// What is asked.
 #[derive(Clone, Copy)]
@@ -77,6 +77,51 @@ impl Call {
         Refused::new(Left::Call, "", is_back)
     }
 
+    /// That an insert found nothing, or its refusal.
+    pub fn put(
+        self,
+        put: Result<(), InsertRefused<String, String>>,
+        words: Words,
+    ) -> Result<Option<String>, Refused> {
+        match put {
+            Ok(()) => Ok(None),
+            Err(refused) => Err(self.not_put(&refused, words)),
+        }
+    }
+
+    /// Whether what was answered is what is expected.
+    pub fn is_answered(
+        self,
+        answer: Result<Option<String>, Refused>,
+        words: Words,
+    ) -> Result<bool, Refused> {
+        Ok(words.is_found(self.expected(), answer?))
+    }
+
+    /// What a removal took out, or its refusal.
+    pub fn removed(
+        self,
+        removed: Result<Option<String>, NotTold<String>>,
+        words: Words,
+    ) -> Result<Option<String>, Refused> {
+        match removed {
+            Ok(removed) => Ok(removed),
+            Err(refused) => Err(self.not_told(&refused, words)),
+        }
+    }
+
+    /// That an invalidation hands nothing out, or its refusal.
+    pub fn invalidated(
+        self,
+        invalidated: Result<(), NotTold<String>>,
+        words: Words,
+    ) -> Result<Option<String>, Refused> {
+        match invalidated {
+            Ok(()) => Ok(None),
+            Err(refused) => Err(self.not_told(&refused, words)),
+        }
+    }
+
     /// A removal that the listener was not told of.
     pub fn not_told(self, refused: &NotTold<String>, words: Words) -> Refused {
         Refused {
@@ -116,5 +161,13 @@ impl Call {
             Err(GetWithRefused::Lookup(key)) => Err(self.not_looked_up(&key, words)),
             Err(GetWithRefused::Insert(refused)) => Err(self.not_inserted(&refused, words)),
         }
+    }
+}
+
+/// What a look-up found, or its refusal.
+pub fn got(found: Result<Option<String>, OutOfMemory>) -> Result<Option<String>, Refused> {
+    match found {
+        Ok(found) => Ok(found),
+        Err(_) => Err(Refused::new(Left::Call, "", true)),
     }
 }

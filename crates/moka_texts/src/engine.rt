@@ -88,27 +88,32 @@ fn look_up(
     }
 }
 
-/// The value of a key. The key comes with it where that is asked for, and only there.
+/// The value of an entry, with which its key comes if that is asked for, and only then.
+fn value_of(
+    found: Option<Entry<String, String>>,
+    call: Call,
+    need_key: bool,
+    words: Words,
+) -> Option<String> {
+    let entry = found?;
+    let is_right = match &entry.key {
+        Some(key) => need_key && words.is(call.key, key),
+        None => !need_key,
+    };
+    if is_right { Some(entry.value) } else { None }
+}
+
+/// The value of a key.
 fn find(cache: &mut Texts, call: Call, words: Words) -> Result<Option<String>, OutOfMemory> {
     let (key, now) = (&words.text(call.key), words.now);
-    let need_key = !matches!(call.ask, Ask::Get);
-    let found = match call.ask {
-        Ask::Peek => {
-            return cache.get_with_hash_without_recording(key, HASH, Some(&mut NoTest), now);
+    match call.ask {
+        Ask::Peek => cache.get_with_hash_without_recording(key, HASH, Some(&mut NoTest), now),
+        Ask::Scan => cache.scanning_get(key, now),
+        _ => {
+            let need_key = !matches!(call.ask, Ask::Get);
+            let found = look_up(cache, key, call.ask, need_key, now)?;
+            Ok(value_of(found, call, need_key, words))
         }
-        Ask::Scan => return cache.scanning_get(key, now),
-        _ => look_up(cache, key, call.ask, need_key, now),
-    };
-    match found {
-        Ok(Some(entry)) => {
-            let is_right = match &entry.key {
-                Some(key) => need_key && words.is(call.key, key),
-                None => !need_key,
-            };
-            Ok(if is_right { Some(entry.value) } else { None })
-        }
-        Ok(None) => Ok(None),
-        Err(error) => Err(error),
     }
 }
 
@@ -142,25 +147,27 @@ fn is_taken_out(cache: &mut Texts, call: Call, words: Words) -> Result<bool, Ref
     })
 }
 
+/// Whether a call that changes nothing if memory is refused answers as it should.
+fn is_asked(cache: &mut Texts, call: Call, words: Words) -> Result<bool, OutOfMemory> {
+    match call.ask {
+        Ask::Register => is_registered(cache, words),
+        Ask::Keys => match cache.keys(0)? {
+            Some(keys) => Ok(keys.len() > 0),
+            None => Ok(false),
+        },
+        _ => Ok(words.is_found(call.expected(), find(cache, call, words)?)),
+    }
+}
+
 impl Asked for Texts {
     fn is_answered(&mut self, call: Call, words: Words) -> Result<bool, Refused> {
-        let answered = match call.ask {
-            Ask::Insert => return put(self, call, words),
-            Ask::Remove => return is_taken_out(self, call, words),
-            Ask::Register => is_registered(self, words),
-            Ask::Keys => match self.keys(0) {
-                Ok(Some(keys)) => Ok(keys.len() > 0),
-                Ok(None) => Ok(false),
-                Err(error) => Err(error),
+        match call.ask {
+            Ask::Insert => put(self, call, words),
+            Ask::Remove => is_taken_out(self, call, words),
+            _ => match is_asked(self, call, words) {
+                Ok(is_right) => Ok(is_right),
+                Err(_) => Err(Refused::new(Left::Call, "", true)),
             },
-            _ => match find(self, call, words) {
-                Ok(found) => Ok(words.is_found(call.expected(), found)),
-                Err(error) => Err(error),
-            },
-        };
-        match answered {
-            Ok(is_right) => Ok(is_right),
-            Err(_) => Err(Refused::new(Left::Call, "", true)),
         }
     }
 

@@ -1,5 +1,5 @@
 //! The calls of a cache in segments, made with one text after the other.
-use crate::calls::{Ask, Call, Row};
+use crate::calls::{Ask, Call, Row, got};
 use crate::engine::Ids;
 use crate::notes::{Notes, TRIES, Words};
 use crate::report::{Left, Refused, Report, Told, told_of};
@@ -89,22 +89,13 @@ fn ask_by_key(cache: &mut Segmented, call: Call, words: Words) -> Result<Option<
     let key = words.text(call.key);
     let (now, clock) = (words.now, &mut FixedClock(words.now));
     match call.ask {
-        Ask::Insert => match cache.insert(key, words.text(call.value), now, clock) {
-            Ok(()) => Ok(None),
-            Err(refused) => Err(call.not_put(&refused, words)),
-        },
-        Ask::Remove => match cache.remove(&key, now, clock) {
-            Ok(removed) => Ok(removed),
-            Err(refused) => Err(call.not_told(&refused, words)),
-        },
-        Ask::Invalidate => match cache.invalidate(&key, now, clock) {
-            Ok(()) => Ok(None),
-            Err(refused) => Err(call.not_told(&refused, words)),
-        },
-        _ => match cache.get(&key, now, clock) {
-            Ok(found) => Ok(found),
-            Err(_) => Err(Refused::new(Left::Call, "", true)),
-        },
+        Ask::Insert => {
+            let value = words.text(call.value);
+            call.put(cache.insert(key, value, now, clock), words)
+        }
+        Ask::Remove => call.removed(cache.remove(&key, now, clock), words),
+        Ask::Invalidate => call.invalidated(cache.invalidate(&key, now, clock), words),
+        _ => got(cache.get(&key, now, clock)),
     }
 }
 
@@ -140,10 +131,7 @@ impl Asked for Segmented {
             Ask::Register => register(self, call, words),
             _ => ask_by_key(self, call, words),
         };
-        match answer {
-            Ok(answer) => Ok(words.is_found(call.expected(), answer)),
-            Err(refused) => Err(refused),
-        }
+        call.is_answered(answer, words)
     }
 
     /// What the segment of this key tells, beside what all segments counted, and how many entries all have.

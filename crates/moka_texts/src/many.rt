@@ -112,29 +112,54 @@ impl Call {
     }
 }
 
-/// Whether the call answers as it should: of the keys all are there, or none.
+/// Whether all texts are put in.
+fn put_all(cache: &mut Cached, call: Call, words: Words) -> Result<bool, Refused> {
+    match cache.insert_many(items(call, words), words.now, &mut FixedClock(words.now)) {
+        Ok(()) => Ok(true),
+        Err(refused) => Err(call.not_all_put(refused, words)),
+    }
+}
+
+/// Whether of these keys all are there, or none.
+fn get_all(
+    cache: &mut Cached,
+    call: Call,
+    keys: &[String],
+    words: Words,
+) -> Result<bool, Refused> {
+    match cache.get_many(words.alloc, keys, words.now, &mut FixedClock(words.now)) {
+        Ok(found) => Ok(hits(&found) == if call.there.is_some() { COUNT } else { 0 }),
+        Err(refused) => Err(call.not_all_got(&refused.found)),
+    }
+}
+
+/// Whether all these keys are taken out.
+fn take_all_out(
+    cache: &mut Cached,
+    call: Call,
+    keys: &[String],
+    words: Words,
+) -> Result<bool, Refused> {
+    match cache.invalidate_many(keys, words.now, &mut FixedClock(words.now)) {
+        Ok(()) => Ok(true),
+        Err(refused) => Err(call.not_all_told(refused, words)),
+    }
+}
+
+/// Whether the call answers as it should.
 pub fn is_answered(cache: &mut Cached, call: Call, words: Words) -> Result<bool, Refused> {
-    let (now, clock) = (words.now, &mut FixedClock(words.now));
     if matches!(call.ask, Ask::InsertMany) {
-        return match cache.insert_many(items(call, words), now, clock) {
-            Ok(()) => Ok(true),
-            Err(refused) => Err(call.not_all_put(refused, words)),
-        };
+        return put_all(cache, call, words);
     }
     let keys = [
         item(words, 0).text(call.key),
         item(words, 1).text(call.key),
         item(words, 2).text(call.key),
     ];
-    match call.ask {
-        Ask::GetMany => match cache.get_many(words.alloc, &keys, now, clock) {
-            Ok(found) => Ok(hits(&found) == if call.there.is_some() { COUNT } else { 0 }),
-            Err(refused) => Err(call.not_all_got(&refused.found)),
-        },
-        _ => match cache.invalidate_many(&keys, now, clock) {
-            Ok(()) => Ok(true),
-            Err(refused) => Err(call.not_all_told(refused, words)),
-        },
+    if matches!(call.ask, Ask::GetMany) {
+        get_all(cache, call, &keys, words)
+    } else {
+        take_all_out(cache, call, &keys, words)
     }
 }
 

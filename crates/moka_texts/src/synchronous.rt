@@ -1,5 +1,5 @@
 //! The calls of the synchronous cache, made with one text after the other, and how each call of one is made.
-use crate::calls::{Ask, Call, Row};
+use crate::calls::{Ask, Call, Row, got};
 use crate::engine::Ids;
 use crate::entries::{compute, get_made, get_offered};
 use crate::many;
@@ -19,22 +19,13 @@ fn ask_by_key(cache: &mut Cached, call: Call, words: Words) -> Result<Option<Str
     let key = words.text(call.key);
     let (now, clock) = (words.now, &mut FixedClock(words.now));
     match call.ask {
-        Ask::Insert => match cache.insert(key, words.text(call.value), now, clock) {
-            Ok(()) => Ok(None),
-            Err(refused) => Err(call.not_put(&refused, words)),
-        },
-        Ask::Remove => match cache.remove(&key, now, clock) {
-            Ok(removed) => Ok(removed),
-            Err(refused) => Err(call.not_told(&refused, words)),
-        },
-        Ask::Invalidate => match cache.invalidate(&key, now, clock) {
-            Ok(()) => Ok(None),
-            Err(refused) => Err(call.not_told(&refused, words)),
-        },
-        _ => match cache.get(&key, now, clock) {
-            Ok(found) => Ok(found),
-            Err(_) => Err(Refused::new(Left::Call, "", true)),
-        },
+        Ask::Insert => {
+            let value = words.text(call.value);
+            call.put(cache.insert(key, value, now, clock), words)
+        }
+        Ask::Remove => call.removed(cache.remove(&key, now, clock), words),
+        Ask::Invalidate => call.invalidated(cache.invalidate(&key, now, clock), words),
+        _ => got(cache.get(&key, now, clock)),
     }
 }
 
@@ -45,18 +36,9 @@ fn ask_by_form(cache: &mut Cached, call: Call, words: Words) -> Result<Option<St
     let hash = cache.hash_of(&form);
     let (now, clock) = (words.now, &mut FixedClock(words.now));
     match call.ask {
-        Ask::RemoveBy => match cache.remove_by(&form, hash, now, clock) {
-            Ok(removed) => Ok(removed),
-            Err(refused) => Err(call.not_told(&refused, words)),
-        },
-        Ask::InvalidateBy => match cache.invalidate_by(&form, hash, now, clock) {
-            Ok(()) => Ok(None),
-            Err(refused) => Err(call.not_told(&refused, words)),
-        },
-        _ => match cache.get_by(&form, hash, now, clock) {
-            Ok(found) => Ok(found),
-            Err(_) => Err(Refused::new(Left::Call, "", true)),
-        },
+        Ask::RemoveBy => call.removed(cache.remove_by(&form, hash, now, clock), words),
+        Ask::InvalidateBy => call.invalidated(cache.invalidate_by(&form, hash, now, clock), words),
+        _ => got(cache.get_by(&form, hash, now, clock)),
     }
 }
 
@@ -69,30 +51,31 @@ fn register(cache: &mut Cached, words: Words) -> Result<Option<String>, Refused>
     }
 }
 
+/// A call that answers one text, or none.
+fn ask(cache: &mut Cached, call: Call, words: Words) -> Result<Option<String>, Refused> {
+    match call.ask {
+        Ask::GetBy | Ask::RemoveBy | Ask::InvalidateBy => ask_by_form(cache, call, words),
+        Ask::Register => register(cache, words),
+        Ask::GetWith | Ask::OrInsertWith | Ask::OrInsert | Ask::AndUpsertWith => {
+            call.handed_out(get_made(cache, call, words), words)
+        }
+        Ask::Leave | Ask::Put | Ask::TakeOut => compute(cache, call, words),
+        Ask::Insert | Ask::Get | Ask::Remove | Ask::Invalidate => ask_by_key(cache, call, words),
+        _ => call.handed_out(get_offered(cache, call, words), words),
+    }
+}
+
 impl Asked for Cached {
     fn is_answered(&mut self, call: Call, words: Words) -> Result<bool, Refused> {
-        let answer = match call.ask {
+        match call.ask {
             Ask::Contains => {
                 let key = words.text(call.key);
-                return Ok(self.contains_key(&key, words.now) == call.there.is_some());
+                Ok(self.contains_key(&key, words.now) == call.there.is_some())
             }
             Ask::InsertMany | Ask::GetMany | Ask::InvalidateMany => {
-                return many::is_answered(self, call, words);
+                many::is_answered(self, call, words)
             }
-            Ask::GetBy | Ask::RemoveBy | Ask::InvalidateBy => ask_by_form(self, call, words),
-            Ask::Register => register(self, words),
-            Ask::GetWith | Ask::OrInsertWith | Ask::OrInsert | Ask::AndUpsertWith => {
-                call.handed_out(get_made(self, call, words), words)
-            }
-            Ask::Leave | Ask::Put | Ask::TakeOut => compute(self, call, words),
-            Ask::Insert | Ask::Get | Ask::Remove | Ask::Invalidate => {
-                ask_by_key(self, call, words)
-            }
-            _ => call.handed_out(get_offered(self, call, words), words),
-        };
-        match answer {
-            Ok(answer) => Ok(words.is_found(call.expected(), answer)),
-            Err(refused) => Err(refused),
+            _ => call.is_answered(ask(self, call, words), words),
         }
     }
 

@@ -145,10 +145,10 @@ pub enum Call<K, V, P> {
     },
 }
 
-/// Prints which call it is. Its arguments are left out, so that keys and values need no `Debug`.
-impl<K, V, P> fmt::Debug for Call<K, V, P> {
-    fn fmt(&self, f: &mut fmt::Formatter<'_>) -> fmt::Result {
-        f.write_str(match self {
+impl<K, V, P> Call<K, V, P> {
+    // Which call it is. One match for one text: printed in each arm, it takes four times as long to be proved.
+    fn name(&self) -> &'static str {
+        match self {
             Call::Insert { .. } => "Insert",
             Call::Send { .. } => "Send",
             Call::Get { .. } => "Get",
@@ -166,7 +166,14 @@ impl<K, V, P> fmt::Debug for Call<K, V, P> {
             Call::Report => "Report",
             Call::Pending => "Pending",
             Call::SetCapacity { .. } => "SetCapacity",
-        })
+        }
+    }
+}
+
+/// Prints which call it is. Its arguments are left out, so that keys and values need no `Debug`.
+impl<K, V, P> fmt::Debug for Call<K, V, P> {
+    fn fmt(&self, f: &mut fmt::Formatter<'_>) -> fmt::Result {
+        f.write_str(self.name())
     }
 }
 
@@ -234,10 +241,10 @@ pub enum Reply<K, V, P> {
     SetCapacity(Result<(), CapacityError>),
 }
 
-/// Prints the name of the answered call. What it answered is left out, so that keys and values need no `Debug`.
-impl<K, V, P> fmt::Debug for Reply<K, V, P> {
-    fn fmt(&self, f: &mut fmt::Formatter<'_>) -> fmt::Result {
-        f.write_str(match self {
+impl<K, V, P> Reply<K, V, P> {
+    // Which call it answers.
+    fn name(&self) -> &'static str {
+        match self {
             Reply::Insert(_) => "Insert",
             Reply::Disabled { .. } => "Disabled",
             Reply::Send(_) => "Send",
@@ -256,7 +263,14 @@ impl<K, V, P> fmt::Debug for Reply<K, V, P> {
             Reply::Report { .. } => "Report",
             Reply::Pending { .. } => "Pending",
             Reply::SetCapacity(_) => "SetCapacity",
-        })
+        }
+    }
+}
+
+/// Prints the name of the answered call. What it answered is left out, so that keys and values need no `Debug`.
+impl<K, V, P> fmt::Debug for Reply<K, V, P> {
+    fn fmt(&self, f: &mut fmt::Formatter<'_>) -> fmt::Result {
+        f.write_str(self.name())
     }
 }
 
