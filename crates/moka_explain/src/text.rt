@@ -19,22 +19,32 @@ pub fn write_explained<W: Write>(
     let reply = &explained.reply;
     writeln!(out, "{}", ReplyText(reply))?;
     match &explained.answer {
-        Answer::Met(look) => write_met(out, look)?,
+        Answer::Met(look) => write_met(out, look),
         Answer::Became(fates) => {
-            write_applied(out, fates.now, applied_in(fates, 0))?;
-            write_fates(out, fates, policy, None)?;
+            write_became(out, fates, policy, applied_in(fates, 0), None)
         }
         Answer::MetAndBecame(look, fates) => {
             write_met(out, look)?;
             let applied = applied_in(fates, reads_queued_by(reply));
             if applied.is_any() || has_any_left(&fates.after) {
-                write_applied(out, fates.now, applied)?;
-                write_fates(out, fates, policy, Some(look.key))?;
+                return write_became(out, fates, policy, applied, Some(look.key));
             }
+            Ok(())
         }
-        Answer::Nothing => {}
+        Answer::Nothing => Ok(()),
     }
-    Ok(())
+}
+
+/// Says what a call applied, and what became of each key, of which a look-up may have hit one.
+fn write_became<W: Write>(
+    out: &mut W,
+    fates: &Fates,
+    policy: EvictionPolicy,
+    applied: Queued,
+    hit: Option<u32>,
+) -> Result<()> {
+    write_applied(out, fates.now, applied)?;
+    write_fates(out, fates, policy, hit)
 }
 
 impl Queued {
