@@ -21,7 +21,8 @@ pub fn write_explained<W: Write>(
     match &explained.answer {
         Answer::Met(look) => write_met(out, look),
         Answer::Became(fates) => {
-            write_became(out, fates, policy, applied_in(fates, 0), None)
+            let applied = applied_in(fates, 0);
+            write_became(out, fates, policy, applied, None)
         }
         Answer::MetAndBecame(look, fates) => {
             write_met(out, look)?;

@@ -121,12 +121,7 @@ fn put_all(cache: &mut Cached, call: Call, words: Words) -> Result<bool, Refused
 }
 
 /// Whether of these keys all are there, or none.
-fn get_all(
-    cache: &mut Cached,
-    call: Call,
-    keys: &[String],
-    words: Words,
-) -> Result<bool, Refused> {
+fn get_all(cache: &mut Cached, call: Call, keys: &[String], words: Words) -> Result<bool, Refused> {
     match cache.get_many(words.alloc, keys, words.now, &mut FixedClock(words.now)) {
         Ok(found) => Ok(hits(&found) == if call.there.is_some() { COUNT } else { 0 }),
         Err(refused) => Err(call.not_all_got(&refused.found)),
