@@ -1,6 +1,9 @@
-use Rattle.std.proofs.Common.{refl}
+use Rattle.std.proofs.Common.{refl, ◌∙◌, length-set}
 use Rattle.moka_segments.proofs.OneSegment.{is_at}
 use Rattle.moka_segments.proofs.segmented.SegmentedCache.segment_mut.Goals as goal
+
+pub invariant_of-self-lent : goal.invariant_of-self-lent
+invariant_of-self-lent g c = λ written. length-set c.self.inside.segments.items c.args.index written ∙ c.self.invariant
 
 pub returns : goal.returns
 returns g c =
