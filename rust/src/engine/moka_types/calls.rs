@@ -146,7 +146,7 @@ pub enum Call<K, V, P> {
 }
 
 impl<K, V, P> Call<K, V, P> {
-    // Which call it is. One match for one text: printed in each arm, it takes four times as long to be proved.
+    // Which call it is. The printing stands apart, since what follows a match is proved behind each of its arms.
     fn name(&self) -> &'static str {
         match self {
             Call::Insert { .. } => "Insert",
