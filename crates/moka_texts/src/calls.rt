@@ -78,12 +78,12 @@ impl Call {
     }
 
     /// That an insert found nothing, or its refusal.
-    pub fn put(
+    pub fn inserted(
         self,
-        put: Result<(), InsertRefused<String, String>>,
+        inserted: Result<(), InsertRefused<String, String>>,
         words: Words,
     ) -> Result<Option<String>, Refused> {
-        match put {
+        match inserted {
             Ok(()) => Ok(None),
             Err(refused) => Err(self.not_put(&refused, words)),
         }
@@ -165,7 +165,9 @@ impl Call {
 }
 
 /// What a look-up found, or its refusal.
-pub fn got(found: Result<Option<String>, OutOfMemory>) -> Result<Option<String>, Refused> {
+pub fn found_or_refused(
+    found: Result<Option<String>, OutOfMemory>,
+) -> Result<Option<String>, Refused> {
     match found {
         Ok(found) => Ok(found),
         Err(_) => Err(Refused::new(Left::Call, "", true)),

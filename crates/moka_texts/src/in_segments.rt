@@ -1,5 +1,5 @@
 //! The calls of a cache in segments, made with one text after the other.
-use crate::calls::{Ask, Call, Row, got};
+use crate::calls::{Ask, Call, Row, found_or_refused};
 use crate::engine::Ids;
 use crate::notes::{Notes, TRIES, Words};
 use crate::report::{Left, Refused, Report, Told, told_of};
@@ -91,11 +91,11 @@ fn ask_by_key(cache: &mut Segmented, call: Call, words: Words) -> Result<Option<
     match call.ask {
         Ask::Insert => {
             let value = words.text(call.value);
-            call.put(cache.insert(key, value, now, clock), words)
+            call.inserted(cache.insert(key, value, now, clock), words)
         }
         Ask::Remove => call.removed(cache.remove(&key, now, clock), words),
         Ask::Invalidate => call.invalidated(cache.invalidate(&key, now, clock), words),
-        _ => got(cache.get(&key, now, clock)),
+        _ => found_or_refused(cache.get(&key, now, clock)),
     }
 }
 

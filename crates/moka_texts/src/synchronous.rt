@@ -1,5 +1,5 @@
 //! The calls of the synchronous cache, made with one text after the other, and how each call of one is made.
-use crate::calls::{Ask, Call, Row, got};
+use crate::calls::{Ask, Call, Row, found_or_refused};
 use crate::engine::Ids;
 use crate::entries::{compute, get_made, get_offered};
 use crate::many;
@@ -21,11 +21,11 @@ fn ask_by_key(cache: &mut Cached, call: Call, words: Words) -> Result<Option<Str
     match call.ask {
         Ask::Insert => {
             let value = words.text(call.value);
-            call.put(cache.insert(key, value, now, clock), words)
+            call.inserted(cache.insert(key, value, now, clock), words)
         }
         Ask::Remove => call.removed(cache.remove(&key, now, clock), words),
         Ask::Invalidate => call.invalidated(cache.invalidate(&key, now, clock), words),
-        _ => got(cache.get(&key, now, clock)),
+        _ => found_or_refused(cache.get(&key, now, clock)),
     }
 }
 
@@ -38,7 +38,7 @@ fn ask_by_form(cache: &mut Cached, call: Call, words: Words) -> Result<Option<St
     match call.ask {
         Ask::RemoveBy => call.removed(cache.remove_by(&form, hash, now, clock), words),
         Ask::InvalidateBy => call.invalidated(cache.invalidate_by(&form, hash, now, clock), words),
-        _ => got(cache.get_by(&form, hash, now, clock)),
+        _ => found_or_refused(cache.get_by(&form, hash, now, clock)),
     }
 }
 
