@@ -4,4 +4,4 @@
 pub mod capacity;
 pub mod router;
 
-pub use router::Router;
+pub use router::{Router, select_mut};

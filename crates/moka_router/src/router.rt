@@ -1,5 +1,7 @@
 //! Which segment a key belongs to. moka: `sync::segment`, `select`.
-ghost use Rattle.std.specs.Prelude.{◌≡◌, ◌<◌, max};
+ghost use Rattle.std.specs.Prelude.{◌≡◌, ◌<◌, length, max};
+ghost use Rattle.std.specs.Borrow.{sem};
+ghost use Rattle.moka_router.specs.Lending.{IsAt, LendsAt};
 ghost use Rattle.moka_router.specs.Routing.{segment_of, share};
 ghost use Rattle.moka_records.specs.Hashing.{key_hash};
 
@@ -86,6 +88,22 @@ impl<S: BuildHasher> Router<S> {
     {
         self.segment_of_hash(self.hasher.hash_one(key))
     }
+}
+
+/// The one of a router's segments that a key belongs to, to be written. moka: `select`.
+pub fn select_mut<'a, T, S: BuildHasher, K: Hash>(
+    segments: &'a mut Vec<T>,
+    router: &Router<S>,
+    key: &K,
+) -> &'a mut T
+    requires as_many { length segments.old.items ≡ router.now.count }
+    ensures* lends { sem 𝓛 (LendsAt T.row segments.entry (segment_of router.now.count
+        (key_hash S.BuildHasher S.Hasher.Hasher router.now.hasher (K.hash_input key.now))) result) }
+    ensures is { IsAt segments.old.items (segment_of router.now.count
+        (key_hash S.BuildHasher S.Hasher.Hasher router.now.hasher (K.hash_input key.now))) result.now }
+{
+    let index = router.segment_of(key);
+    &mut segments[index]
 }
 
 // The segment of a hash, of this many.

@@ -1,17 +1,13 @@
 -- Synchronous caches side by side, and what a call makes of one of them.
-use Rattle.std.specs.Prelude.{◌≡◌, ℕ, ◌<◌, List, length, slice_index_or, slice_set}
+use Rattle.std.specs.Prelude.{◌≡◌, ℕ, List, slice_set}
 use Rattle.moka_calls.specs.Synchronous.{Synchronous}
 use Rattle.moka_router.specs.Routing.{Routing}
+pub use Rattle.moka_router.specs.Lending.{IsAt}
 
 -- the segments, and which keys are whose
 pub record Segmented (K V S X L P W : Type 0) : Type 0 where
   pub routing : Routing S
   pub segments : List (Synchronous K V S X L P W)
-
--- the element at the index is this one
-pub record IsAt {A : Type 0} (xs : List A) (index : ℕ) (x : A) : Type 0 where
-  pub within : index < length xs
-  pub is : (d : A) → slice_index_or xs index d ≡ x
 
 -- the element at the index made a step, and every other is as it was
 pub record StepsAt {A : Type 0} (index : ℕ) (Step : A → A → Type 0) (xs ys : List A) : Type 0 where

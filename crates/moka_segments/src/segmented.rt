@@ -15,7 +15,7 @@ use moka_parts::error::{InsertRefused, OutOfMemory};
 use moka_parts::housekeeper::Clock;
 use moka_parts::notification::{Listener, NoListener};
 use moka_parts::policy::{Expiry, Instant, NoExpiry};
-use moka_router::Router;
+use moka_router::{Router, select_mut};
 use std::hash::{BuildHasher, Hash};
 use std::marker::Model;
 
@@ -142,8 +142,7 @@ impl<
         ensures is { IsAt self.old.segments (segment_of self.old.routing.count
             (key_hash S.BuildHasher S.Hasher.Hasher self.old.routing.hasher (K.hash_input key.now))) result.now }
     {
-        let index = self.segment_of(key);
-        self.segment_mut(index)
+        select_mut(&mut self.segments, &self.router, key)
     }
 
     // The first segment: a router knows of one at least.

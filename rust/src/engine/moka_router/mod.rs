@@ -5,4 +5,4 @@ use crate::support::prelude::*;
 pub mod capacity;
 pub mod router;
 
-pub use router::Router;
+pub use router::{Router, select_mut};

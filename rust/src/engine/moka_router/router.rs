@@ -55,6 +55,17 @@ impl<S: BuildHasher> Router<S> {
     }
 }
 
+/// The one of a router's segments that a key belongs to, to be written. moka: `select`.
+pub fn select_mut<'a, T, S: BuildHasher, K: Hash>(
+    segments: &'a mut Vec<T>,
+    router: &Router<S>,
+    key: &K,
+) -> &'a mut T
+{
+    let index = router.segment_of(key);
+    &mut segments[index]
+}
+
 // The segment of a hash, of this many.
 fn place(hash: u64, count: u32) -> usize
 {

@@ -9,7 +9,7 @@ use crate::engine::moka_parts::error::{InsertRefused, OutOfMemory};
 use crate::engine::moka_parts::housekeeper::Clock;
 use crate::engine::moka_parts::notification::{Listener, NoListener};
 use crate::engine::moka_parts::policy::{Expiry, Instant, NoExpiry};
-use crate::engine::moka_router::Router;
+use crate::engine::moka_router::{Router, select_mut};
 use crate::support::hash::{BuildHasher, Hash};
 
 /// Synchronous caches side by side. A key's hash names the one that the key belongs to, and each call by key is that
@@ -83,8 +83,7 @@ impl<
     // The segment that a key belongs to.
     fn own_segment(&mut self, key: &K) -> &mut Cache<K, V, X, L, P, W, S>
     {
-        let index = self.segment_of(key);
-        self.segment_mut(index)
+        select_mut(&mut self.segments, &self.router, key)
     }
 
     // The first segment: a router knows of one at least.

@@ -2,4 +2,4 @@ use Rattle.std.proofs.Common.{refl}
 use Rattle.moka_segments.proofs.segmented.SegmentedCache.own_segment.Goals as goal
 
 pub returns : goal.returns
-returns g c = rw (← c.segment_of-index.ensures.place) ((refl, λ written. refl), record { lends = tt; is = c.segment_mut.ensures.is })
+returns g c = rw (← c.self.view_is) ((refl, λ written. refl), record { lends = tt; is = c.select_mut.ensures.is })

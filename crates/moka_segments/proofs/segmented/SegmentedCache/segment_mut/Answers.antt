@@ -1,5 +1,5 @@
 use Rattle.std.proofs.Common.{refl, ◌∙◌, length-set}
-use Rattle.moka_segments.proofs.OneSegment.{is_at}
+use Rattle.moka_router.proofs.AtIndex.{is_at}
 use Rattle.moka_segments.proofs.segmented.SegmentedCache.segment_mut.Goals as goal
 
 pub invariant_of-self-lent : goal.invariant_of-self-lent
