@@ -22,6 +22,4 @@ mod released;
 #[cfg(test)]
 mod segments;
 #[cfg(test)]
-mod timed;
-#[cfg(test)]
 mod visits;

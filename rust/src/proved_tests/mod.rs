@@ -7,3 +7,4 @@ pub mod moka_workload;
 pub mod moka_cache_tests;
 pub mod moka_uses;
 pub mod moka_uses_tests;
+pub mod moka_timed_uses_tests;

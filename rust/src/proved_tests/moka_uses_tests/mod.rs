@@ -23,6 +23,4 @@ mod released;
 #[cfg(test)]
 mod segments;
 #[cfg(test)]
-mod timed;
-#[cfg(test)]
 mod visits;

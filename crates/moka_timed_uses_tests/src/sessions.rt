@@ -1,6 +1,6 @@
 //! Tests of `moka_uses::joined` and `moka_uses::sessions`, and of `moka_uses::restarted` by a module
 //! of that name.
-use super::restarted::{Way, goes_on, log_three_in};
+use crate::restarted::{Way, goes_on, log_three_in};
 use moka_engine::Instant;
 use moka_timed::ManualClock;
 use moka_uses::joined::put_and_find;

@@ -1,5 +1,4 @@
 //! Tests of `moka_uses::profiles`.
-use crate::makers::twenty;
 use moka_engine::Instant;
 use moka_timed::ManualClock;
 use moka_uses::profiles::{Profiles, profile, start};
@@ -7,6 +6,10 @@ use std::time::Duration;
 
 fn ten() -> u64 {
     10
+}
+
+fn twenty() -> u64 {
+    20
 }
 
 // Whether a profile is read once, and again when it has expired.
