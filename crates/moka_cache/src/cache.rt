@@ -54,6 +54,13 @@ pub(crate) struct Put<K, V> {
 
 /// A cache that sends each operation as it is handed out, so that none waits between two calls. Each call is given the
 /// moment, and a clock for the runs of maintenance that it makes. moka: `sync::cache::Cache`.
+///
+/// ```text
+/// let config = CacheConfig::default().max_capacity(10_000);
+/// let mut cache: Cache<u64, u64> = Cache::build(config, alloc, now)?;
+/// cache.insert(1, 10, now, &mut clock)?;
+/// let found = cache.get(&1, now, &mut clock)?; // Some(10)
+/// ```
 pub struct Cache<
     K: Eq + Hash,
     V,
@@ -396,6 +403,10 @@ impl<
     /// makes, which is inserted; a clone of it is handed out. `init` is called only if the key is not there. The value
     /// is inserted at the moment `now`, so if `init` takes longer than the time to live the entry has expired already.
     ///
+    /// ```text
+    /// let value = cache.get_with(key, || 20, now, &mut clock)?;
+    /// ```
+    ///
     /// # Errors
     /// `Lookup`, with the key, if memory for the clone of a value that is there is refused; and `Insert`, with key and
     /// the value that was made, if memory for its clone or for the insert is refused, or tickets are used up.
@@ -442,6 +453,13 @@ impl<
     }
 
     /// As `get_with`, for a maker that may fail: then nothing is inserted, and its error is answered.
+    ///
+    /// ```text
+    /// match cache.try_get_with(key, || read_from(source), now, &mut clock)? {
+    ///     Ok(value) => use_it(value),
+    ///     Err(error) => report(error), // of `read_from`
+    /// }
+    /// ```
     ///
     /// # Errors
     /// The outer error as `get_with`; the inner one is the maker's.

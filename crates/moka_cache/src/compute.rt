@@ -32,6 +32,11 @@ impl<
     /// Puts the value that `f` makes of a clone of the key's value, or of `None` if the key is not there or not visible
     /// at the moment `now`. No load is counted. moka: `and_upsert_with`.
     ///
+    /// ```text
+    /// let one_more = |seen: Option<u64>| seen.unwrap_or(0).saturating_add(1);
+    /// let count = cache.upsert_with(page, one_more, now, &mut clock)?.value;
+    /// ```
+    ///
     /// # Errors
     /// `Lookup`, with the key, if memory for the clone of the value that is there is refused; `f` was not called. And
     /// `Insert`, with key and the value that was made, as `get_or_insert_with`; what is there was left.
@@ -65,6 +70,17 @@ impl<
     /// Puts a value, takes the key out, or does nothing, as `f` answers, which sees a clone of the key's value, or
     /// `None` if the key is not there or not visible at the moment `now`. A removal hands its value out, and the
     /// listener, if one is set, is notified. No load is counted. moka: `and_compute_with`.
+    ///
+    /// ```text
+    /// let remove_full = |seen: Option<&u64>| match seen {
+    ///     Some(count) if *count >= 100 => Op::Remove,
+    ///     _ => Op::Nop,
+    /// };
+    /// let is_removed = matches!(
+    ///     cache.compute_with(page, remove_full, now, &mut clock)?,
+    ///     CompResult::Removed(_)
+    /// );
+    /// ```
     ///
     /// # Errors
     /// `Lookup`, with the key, if memory for the clone of the value that is there is refused; `f` was not called. And

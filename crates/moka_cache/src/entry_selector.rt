@@ -39,6 +39,11 @@ impl<
     S: BuildHasher,
 > Cache<K, V, X, L, P, W, S> {
     /// Selects a key for one entry call. moka: `entry`.
+    ///
+    /// ```text
+    /// let entry = cache.entry(key).or_insert(10, now, &mut clock)?;
+    /// let is_put = entry.is_fresh; // else `entry.value` is what was there
+    /// ```
     pub fn entry(&mut self, key: K) -> OwnedKeyEntrySelector<'_, K, V, X, L, P, W, S>
         ensures same_cache { result.cache.ghost_name ≡ self.entry.ghost_name }
         ensures unchanged { result.cache.now ≡ self.old }

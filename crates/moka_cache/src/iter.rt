@@ -26,6 +26,12 @@ impl<
     /// The entries that are visible at the moment `now`, each once, in no particular order: clones of key and value.
     /// Nothing is recorded.
     ///
+    /// ```text
+    /// for (key, value) in cache.iter(now)? {
+    ///     print_entry(key, value);
+    /// }
+    /// ```
+    ///
     /// # Errors
     /// `OutOfMemory` if memory for the list or for a clone is refused.
     pub fn iter(&self, now: Instant) -> Result<IntoIter<(K, V)>, OutOfMemory>

@@ -51,6 +51,12 @@ impl<
     /// As `get` of the key that passes, or, if no key of the cache does, of any other that is not there. `hash` is that
     /// of the keys that pass, by the cache's hasher.
     ///
+    /// ```text
+    /// let name = "a key"; // of a cache with `String` keys; none is made
+    /// let hash = cache.hash_of(&name);
+    /// let found = cache.get_by(&name, hash, now, &mut clock)?;
+    /// ```
+    ///
     /// # Errors
     /// As `get`.
     pub fn get_by<T: KeyTest<K>, C: Clock>(

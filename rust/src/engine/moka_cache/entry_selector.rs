@@ -32,6 +32,11 @@ impl<
     S: BuildHasher,
 > Cache<K, V, X, L, P, W, S> {
     /// Selects a key for one entry call. moka: `entry`.
+    ///
+    /// ```text
+    /// let entry = cache.entry(key).or_insert(10, now, &mut clock)?;
+    /// let is_put = entry.is_fresh; // else `entry.value` is what was there
+    /// ```
     pub fn entry(&mut self, key: K) -> OwnedKeyEntrySelector<'_, K, V, X, L, P, W, S>
     {
         OwnedKeyEntrySelector { cache: self, key }

@@ -20,6 +20,11 @@ impl<
 > Cache<K, V, X, CountingListener<L>, P, W, S> {
     /// How many values left, by cause, as the cache's listener was notified; none if the cache has none. A removal
     /// of which it could not be notified, since memory was refused, is not counted.
+    ///
+    /// ```text
+    /// let config = CacheConfig::default().eviction_listener(CountingListener::new(NoListener));
+    /// let evicted = cache.removals().size; // of a cache that was built from it
+    /// ```
     pub fn removals(&self) -> Removals
     {
         match self.engine().listener() {

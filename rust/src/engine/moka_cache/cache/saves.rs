@@ -53,6 +53,12 @@ impl<
     /// Runs maintenance at the moment `now`, and then clones what `snapshot` lists: all visible entries, least recently
     /// used first.
     ///
+    /// ```text
+    /// let saved = cache.save(alloc, now, &mut clock)?;
+    /// let mut again = Cache::build(config, alloc, now)?;
+    /// again.restore(saved, now, &mut clock)?;
+    /// ```
+    ///
     /// # Errors
     /// `OutOfMemory` if memory for the list or for a clone is refused. The run was made.
     pub fn save<C: Clock>(
