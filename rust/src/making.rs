@@ -2,7 +2,8 @@
 
 use crate::notices::{Awaited, locked};
 use std::any::{Any, TypeId};
-use std::sync::{Arc, Condvar, Mutex, PoisonError};
+use std::sync::{Arc, Condvar, Mutex, MutexGuard, PoisonError};
+use std::thread::{self, ThreadId};
 
 /// What a maker came to.
 pub(crate) enum Outcome<V> {
@@ -30,7 +31,7 @@ impl<V: Clone> Outcome<V> {
 
 enum State<V> {
     Going,
-    Done(Outcome<V>),
+    Done(Arc<Outcome<V>>),
     // The maker panicked, or went without an answer for others: one of those who wait is the next.
     Left,
 }
@@ -58,8 +59,22 @@ impl<K: Eq> Wanted<K> {
 
 struct Making<K, V> {
     wanted: Wanted<K>,
+    maker: ThreadId,
     state: Mutex<State<V>>,
     ended: Condvar,
+}
+
+impl<K, V> Making<K, V> {
+    // What it is in when it has ended. The maker itself would wait for ever.
+    fn wait(&self) -> MutexGuard<'_, State<V>> {
+        assert!(
+            self.maker != thread::current().id(),
+            "a maker or closure asked for its own key, by a call that waits for it"
+        );
+        let state = locked(&self.state);
+        let ended = self.ended.wait_while(state, |state| matches!(state, State::Going));
+        ended.unwrap_or_else(PoisonError::into_inner)
+    }
 }
 
 /// The makers of a shard that are on their way: few, so they are in no order. The caller's `Eq` runs only if one
@@ -93,6 +108,11 @@ impl<'a, K, V> Ending<'a, K, V> {
     pub fn close(&self) {
         locked(&self.makers.0).retain(|making| !Arc::ptr_eq(making, &self.making));
     }
+
+    // Whether another waits, once none can join.
+    fn is_awaited(&self) -> bool {
+        Arc::strong_count(&self.making) > 1
+    }
 }
 
 impl<K, V> Drop for Ending<'_, K, V> {
@@ -115,6 +135,7 @@ impl<K: Eq, V: Clone> Makers<K, V> {
         }
         let making = Arc::new(Making {
             wanted: wanted.clone(),
+            maker: thread::current().id(),
             state: Mutex::new(State::Going),
             ended: Condvar::new(),
         });
@@ -124,27 +145,36 @@ impl<K: Eq, V: Clone> Makers<K, V> {
 
     /// The outcome of `make`, which is called by one of those who want it at a time; the others wait for it. If it
     /// panics or finds a value, one of them is the next: what was found may be gone when another asks.
+    ///
+    /// # Panics
+    /// If `make` calls this for the same.
     pub fn once(&self, wanted: &Wanted<K>, make: impl FnOnce(&Ending<'_, K, V>) -> Outcome<V>) -> Outcome<V> {
         loop {
             let (making, is_maker) = self.join(wanted);
             if is_maker {
                 let ending = Ending::of(self, making);
                 let outcome = make(&ending);
-                if !matches!(outcome, Outcome::Made { is_fresh: false, .. }) {
-                    let told = outcome.told();
+                ending.close();
+                let is_found = matches!(outcome, Outcome::Made { is_fresh: false, .. });
+                if !is_found && ending.is_awaited() {
+                    let told = Arc::new(outcome.told());
                     *locked(&ending.making.state) = State::Done(told);
                 }
                 return outcome;
             }
-            let state = locked(&making.state);
-            let state = making.ended.wait_while(state, |state| matches!(state, State::Going));
-            if let State::Done(outcome) = &*state.unwrap_or_else(PoisonError::into_inner) {
-                return outcome.told();
-            }
+            let outcome = match &*making.wait() {
+                State::Done(outcome) => Arc::clone(outcome),
+                State::Going | State::Left => continue,
+            };
+            // The others need not wait for this clone.
+            return outcome.told();
         }
     }
 
     /// Calls `change` when no other that was called by this for the key is on its way.
+    ///
+    /// # Panics
+    /// If `change` calls this for the same key.
     pub fn alone<R>(&self, hash: u64, key: Arc<K>, change: impl FnOnce() -> R) -> R {
         let kind = TypeId::of::<Makers<(), ()>>();
         let wanted = Wanted { hash, key, kind };
@@ -154,9 +184,7 @@ impl<K: Eq, V: Clone> Makers<K, V> {
                 let _ending = Ending::of(self, making);
                 return change();
             }
-            let state = locked(&making.state);
-            let waited = making.ended.wait_while(state, |state| matches!(state, State::Going));
-            drop(waited);
+            drop(making.wait());
         }
     }
 }

@@ -1,5 +1,7 @@
 //! The policy of a cache, expiries, and what a cache counts. moka: `policy`.
 
+/// Which entries a full cache keeps: those that are asked for often, or those that were used last.
+///
 /// ```
 /// use ravulemis::{EvictionPolicy, sync::Cache};
 /// use std::hash::{BuildHasherDefault, DefaultHasher};
@@ -22,14 +24,16 @@ pub use crate::engine::moka_engine::EvictionPolicy;
 
 use crate::engine::moka_engine as engine;
 use crate::key::Key;
-use std::ops::Deref;
+use std::iter::Sum;
+use std::ops::{Add, AddAssign, Deref};
 use std::sync::Arc;
 use std::time::{Duration, Instant};
 
 /// Decides when each entry expires. moka: `Expiry`.
 ///
 /// Each call answers how long the entry lasts from now on, `None` for always. A time to live or to idle of the cache
-/// holds beside it, and the earliest end counts.
+/// holds beside it, and the earliest end counts. Calls are made under the lock of a shard, so they must not call the
+/// cache. `contains_key` and `iter` ask nothing.
 ///
 /// ```
 /// use ravulemis::{Expiry, sync::Cache};
@@ -50,7 +54,8 @@ use std::time::{Duration, Instant};
 /// assert_eq!(cache.get(&2), None);
 /// ```
 pub trait Expiry<K, V> {
-    /// Asked when an entry is created. The default is always.
+    /// Asked when an entry is created, also if its key is there with an entry whose own time is over. The default is
+    /// always.
     ///
     /// ```
     /// use ravulemis::{Expiry, sync::Cache};
@@ -74,7 +79,8 @@ pub trait Expiry<K, V> {
         None
     }
 
-    /// Asked when an entry is read; `duration_until_expiry` is what it has left, and the default answer.
+    /// Asked when an entry is read; `duration_until_expiry` is what it has left by all its times, and the default
+    /// answer.
     ///
     /// ```
     /// use ravulemis::{Expiry, sync::Cache};
@@ -113,7 +119,8 @@ pub trait Expiry<K, V> {
         duration_until_expiry
     }
 
-    /// Asked when a value is replaced; `duration_until_expiry` is what the entry has left, and the default answer.
+    /// Asked when a value is replaced; `duration_until_expiry` is what the entry has left by all its times, and the
+    /// default answer.
     ///
     /// ```
     /// use ravulemis::{Expiry, sync::Cache};
@@ -193,7 +200,7 @@ where
 /// let policy = Cache::<u32, u32>::new(100).policy();
 /// assert_eq!((policy.max_capacity(), policy.time_to_live()), (Some(100), None));
 /// ```
-#[derive(Clone, Debug)]
+#[derive(Clone, Debug, PartialEq, Eq)]
 pub struct Policy {
     pub(crate) max_capacity: Option<u64>,
     pub(crate) shards: usize,
@@ -273,10 +280,26 @@ pub struct Stats {
     pub evicted: u64,
 }
 
-impl std::ops::Add for Stats {
+impl Stats {
+    /// How many of all look-ups found a value, from 0 to 1; `None` before the first.
+    ///
+    /// ```
+    /// let cache = ravulemis::sync::Cache::new(100);
+    /// assert_eq!(cache.stats().hit_ratio(), None);
+    /// cache.insert(1, 'a');
+    /// (cache.get(&1), cache.get(&2));
+    /// assert_eq!(cache.stats().hit_ratio(), Some(0.5));
+    /// ```
+    pub fn hit_ratio(&self) -> Option<f64> {
+        let (hits, misses) = (self.hits as f64, self.misses as f64);
+        (hits + misses > 0.0).then(|| hits / (hits + misses))
+    }
+}
+
+impl Add for Stats {
     type Output = Stats;
 
-    /// What two caches have counted.
+    /// What two caches have counted, each sum at most `u64::MAX`.
     ///
     /// ```
     /// let (one, other) = (ravulemis::sync::Cache::new(10), ravulemis::sync::Cache::new(10));
@@ -287,15 +310,46 @@ impl std::ops::Add for Stats {
     /// ```
     fn add(self, other: Stats) -> Stats {
         Stats {
-            hits: self.hits + other.hits,
-            misses: self.misses + other.misses,
-            loads: self.loads + other.loads,
-            load_failures: self.load_failures + other.load_failures,
-            expired: self.expired + other.expired,
-            explicit: self.explicit + other.explicit,
-            replaced: self.replaced + other.replaced,
-            evicted: self.evicted + other.evicted,
+            hits: self.hits.saturating_add(other.hits),
+            misses: self.misses.saturating_add(other.misses),
+            loads: self.loads.saturating_add(other.loads),
+            load_failures: self.load_failures.saturating_add(other.load_failures),
+            expired: self.expired.saturating_add(other.expired),
+            explicit: self.explicit.saturating_add(other.explicit),
+            replaced: self.replaced.saturating_add(other.replaced),
+            evicted: self.evicted.saturating_add(other.evicted),
         }
+    }
+}
+
+impl AddAssign for Stats {
+    /// Adds what another cache has counted.
+    ///
+    /// ```
+    /// let cache = ravulemis::sync::Cache::<u32, u32>::new(100);
+    /// cache.get(&1);
+    /// let mut stats = cache.stats();
+    /// stats += cache.stats();
+    /// assert_eq!(stats.misses, 2);
+    /// ```
+    fn add_assign(&mut self, other: Stats) {
+        *self = *self + other;
+    }
+}
+
+impl Sum for Stats {
+    /// What several caches have counted.
+    ///
+    /// ```
+    /// use ravulemis::{Stats, sync::Cache};
+    /// let caches = [Cache::<u32, u32>::new(100), Cache::new(100)];
+    /// for cache in &caches {
+    ///     cache.get(&1);
+    /// }
+    /// assert_eq!(caches.iter().map(Cache::stats).sum::<Stats>().misses, 2);
+    /// ```
+    fn sum<I: Iterator<Item = Stats>>(all: I) -> Stats {
+        all.fold(Stats::default(), Add::add)
     }
 }
 

@@ -116,8 +116,9 @@ macro_rules! setters {
             self
         }
 
-        /// The greatest total weight that is kept; without a weigher each entry weighs 1. A cache of capacity 0 keeps
-        /// nothing. By default there is no bound.
+        /// The greatest total weight that is kept; without a weigher each entry weighs 1. Between two batches of
+        /// maintenance there may be up to 64 entries more in each shard, whatever they weigh; `run_pending_tasks`
+        /// applies what waits. A cache of capacity 0 keeps nothing. By default there is no bound.
         ///
         /// ```
         #[doc = concat!("use ravulemis::", $module, "::Cache;")]

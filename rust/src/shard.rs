@@ -90,9 +90,9 @@ impl<K: Eq + Hash, F: Fn(&Arc<K>) -> bool> KeyTest<Key<'static, K>> for ByTest<'
 }
 
 /// A test of the caller's in a call that changes nothing.
-struct Passing<'a, K>(Test<'a, K>);
+struct Passing<F>(F);
 
-impl<K: Eq + Hash> KeyTest<Key<'static, K>> for Passing<'_, K> {
+impl<K: Eq + Hash, F: Fn(&K) -> bool> KeyTest<Key<'static, K>> for Passing<F> {
     #[inline]
     fn is_key(&self, key: &Key<'static, K>) -> bool {
         note_comparison();
@@ -398,7 +398,7 @@ impl<K: Eq + Hash + 'static, V> Shard<K, V> {
         Some((key, value))
     }
 
-    pub fn contains(&self, hash: u64, test: Test<'_, K>) -> bool {
+    pub fn contains(&self, hash: u64, test: impl Fn(&K) -> bool) -> bool {
         self.cache.contains_key_by(&Passing(test), hash, self.glance())
     }
 
@@ -478,7 +478,7 @@ impl<K: Eq + Hash + 'static, V> Shard<K, V> {
     }
 
     /// Takes a key's entry out, and hands out its value, also one that has expired. The listener is notified.
-    pub fn remove(&mut self, hash: u64, test: Test<'_, K>) -> Option<V>
+    pub fn remove(&mut self, hash: u64, test: impl Fn(&K) -> bool) -> Option<V>
     where
         V: Clone,
     {

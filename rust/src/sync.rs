@@ -30,7 +30,6 @@ pub use iter::Iter;
 
 use self::calls::{Place, Places};
 use crate::engine::moka_segments::Router;
-use crate::key::Test;
 use crate::settings::{Settings, Tests};
 use crate::shard::Shard;
 use crate::{Policy, PredicateError, Stats};
@@ -131,7 +130,8 @@ where
     K: Eq + Hash + Send + Sync + 'static,
     V: Clone + Send + Sync + 'static,
 {
-    /// A cache of at most `max_capacity` entries, from which TinyLFU evicts.
+    /// A cache of `max_capacity` entries, from which TinyLFU evicts. Between two batches of maintenance there may be up
+    /// to 64 more in each shard.
     ///
     /// ```
     /// let cache = ravulemis::sync::Cache::new(100);
@@ -203,19 +203,6 @@ where
         self.0.places.calls(place).make(call)
     }
 
-    // Makes a call for a key by a borrowed form of it.
-    #[inline]
-    fn with_key<Q, R>(&self, key: &Q, call: impl FnOnce(&mut Shard<K, V>, u64, Test<'_, K>) -> R) -> R
-    where
-        K: Borrow<Q>,
-        Q: Eq + Hash + Sync + ?Sized,
-    {
-        let hash = self.0.router.hasher().hash_one(key);
-        self.with(self.place(hash), |shard| {
-            call(shard, hash, &|kept| kept.borrow() == key)
-        })
-    }
-
     // Makes a call for each shard. The engine's cache in segments, whose router names the shard of a key, has one owner
     // of all; here one lock is held at a time.
     fn with_each(&self, mut call: impl FnMut(&mut Shard<K, V>)) {
@@ -242,7 +229,7 @@ where
     pub fn get<Q>(&self, key: &Q) -> Option<V>
     where
         K: Borrow<Q>,
-        Q: Eq + Hash + Sync + ?Sized,
+        Q: Eq + Hash + ?Sized,
     {
         let hash = self.0.router.hasher().hash_one(key);
         self.with(self.place(hash), |shard| shard.get(hash, |kept| kept.borrow() == key))
@@ -259,9 +246,12 @@ where
     pub fn contains_key<Q>(&self, key: &Q) -> bool
     where
         K: Borrow<Q>,
-        Q: Eq + Hash + Sync + ?Sized,
+        Q: Eq + Hash + ?Sized,
     {
-        self.with_key(key, |shard, hash, test| shard.contains(hash, test))
+        let hash = self.0.router.hasher().hash_one(key);
+        self.with(self.place(hash), |shard| {
+            shard.contains(hash, |kept| kept.borrow() == key)
+        })
     }
 
     /// Puts a value under a key. An old value leaves as `Replaced`.
@@ -289,12 +279,16 @@ where
     pub fn remove<Q>(&self, key: &Q) -> Option<V>
     where
         K: Borrow<Q>,
-        Q: Eq + Hash + Sync + ?Sized,
+        Q: Eq + Hash + ?Sized,
     {
-        self.with_key(key, |shard, hash, test| shard.remove(hash, test))
+        let hash = self.0.router.hasher().hash_one(key);
+        self.with(self.place(hash), |shard| {
+            shard.remove(hash, |kept| kept.borrow() == key)
+        })
     }
 
-    /// Removes a key's entry. The listener is notified. As in `remove`, the value is cloned under the shard's lock.
+    /// Removes a key's entry. The listener is notified. As in `remove`, the value is cloned under the shard's lock. A
+    /// value that is being made for the key is put there all the same.
     ///
     /// ```
     /// let cache = ravulemis::sync::Cache::new(100);
@@ -305,7 +299,7 @@ where
     pub fn invalidate<Q>(&self, key: &Q)
     where
         K: Borrow<Q>,
-        Q: Eq + Hash + Sync + ?Sized,
+        Q: Eq + Hash + ?Sized,
     {
         // What is dropped here is dropped without the lock.
         drop(self.remove(key));
@@ -325,7 +319,8 @@ where
     }
 
     /// Hides all values that are there and to which the predicate says yes. They leave in later runs of maintenance,
-    /// and the predicate with them. It has to answer equal arguments equally.
+    /// and the predicate with them: until then look-ups ask it too, and the run that comes to the end of a shard asks it
+    /// about that shard's entries until one is covered, under the lock. It has to answer equal arguments equally.
     ///
     /// # Errors
     /// `InvalidationClosuresDisabled` if the cache was built without `support_invalidation_closures`; `OutOfMemory` if
@@ -426,7 +421,7 @@ where
             load_failures: self.0.load_failures.load(Ordering::Relaxed),
             ..Stats::default()
         };
-        self.with_each(|shard| stats = stats + shard.stats());
+        self.with_each(|shard| stats += shard.stats());
         stats
     }
 

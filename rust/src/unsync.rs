@@ -14,7 +14,6 @@ mod iter;
 pub use entry::{EntrySelector, RefKeyEntrySelector};
 pub use iter::Iter;
 
-use crate::key::Test;
 use crate::notices::{Notices, locked};
 use crate::settings::{Settings, setters};
 use crate::shard::{Shard, Visits};
@@ -118,7 +117,7 @@ impl<K, V> Default for CacheBuilder<K, V> {
 }
 
 impl<K: Eq + Hash + Sync + 'static, V: Clone + 'static> CacheBuilder<K, V> {
-    /// A builder of a cache of at most `max_capacity` entries.
+    /// A builder of a cache of this [capacity](Self::max_capacity).
     ///
     /// ```
     /// use ravulemis::unsync::CacheBuilder;
@@ -209,7 +208,8 @@ where
 }
 
 impl<K: Eq + Hash + Sync + 'static, V: Clone + 'static> Cache<K, V> {
-    /// A cache of at most `max_capacity` entries, from which TinyLFU evicts.
+    /// A cache of `max_capacity` entries, from which TinyLFU evicts. Between two batches of maintenance there may be up
+    /// to 64 more.
     ///
     /// ```
     /// let mut cache = ravulemis::unsync::Cache::new(100);
@@ -270,17 +270,6 @@ impl<K: Eq + Hash + Sync + 'static, V: Clone + 'static, S: BuildHasher> Cache<K,
         call(made.shard)
     }
 
-    // Makes a call for a key by a borrowed form of it.
-    #[inline]
-    fn with_key<Q, R>(&mut self, key: &Q, call: impl FnOnce(&mut Shard<K, V>, u64, Test<'_, K>) -> R) -> R
-    where
-        K: Borrow<Q>,
-        Q: Eq + Hash + Sync + ?Sized,
-    {
-        let hash = self.hasher.hash_one(key);
-        self.with(|shard| call(shard, hash, &|kept| kept.borrow() == key))
-    }
-
     /// A clone of a key's value, by the key or any borrowed form of it.
     ///
     /// ```
@@ -293,7 +282,7 @@ impl<K: Eq + Hash + Sync + 'static, V: Clone + 'static, S: BuildHasher> Cache<K,
     pub fn get<Q>(&mut self, key: &Q) -> Option<V>
     where
         K: Borrow<Q>,
-        Q: Eq + Hash + Sync + ?Sized,
+        Q: Eq + Hash + ?Sized,
     {
         let hash = self.hasher.hash_one(key);
         self.with(|shard| shard.get(hash, |kept| kept.borrow() == key))
@@ -310,10 +299,10 @@ impl<K: Eq + Hash + Sync + 'static, V: Clone + 'static, S: BuildHasher> Cache<K,
     pub fn contains_key<Q>(&self, key: &Q) -> bool
     where
         K: Borrow<Q>,
-        Q: Eq + Hash + Sync + ?Sized,
+        Q: Eq + Hash + ?Sized,
     {
         let hash = self.hasher.hash_one(key);
-        !self.shard.is_broken() && self.shard.contains(hash, &|kept| kept.borrow() == key)
+        !self.shard.is_broken() && self.shard.contains(hash, |kept| kept.borrow() == key)
     }
 
     /// Puts a value under a key. An old value leaves as `Replaced`.
@@ -352,7 +341,7 @@ impl<K: Eq + Hash + Sync + 'static, V: Clone + 'static, S: BuildHasher> Cache<K,
     pub fn get_with_by_ref<Q>(&mut self, key: &Q, init: impl FnOnce() -> V) -> V
     where
         K: Borrow<Q>,
-        Q: Eq + Hash + Sync + ToOwned<Owned = K> + ?Sized,
+        Q: Eq + Hash + ToOwned<Owned = K> + ?Sized,
     {
         self.entry_by_ref(key).or_insert_with(init).into_value()
     }
@@ -378,7 +367,7 @@ impl<K: Eq + Hash + Sync + 'static, V: Clone + 'static, S: BuildHasher> Cache<K,
     pub fn optionally_get_with_by_ref<Q>(&mut self, key: &Q, init: impl FnOnce() -> Option<V>) -> Option<V>
     where
         K: Borrow<Q>,
-        Q: Eq + Hash + Sync + ToOwned<Owned = K> + ?Sized,
+        Q: Eq + Hash + ToOwned<Owned = K> + ?Sized,
     {
         let entry = self.entry_by_ref(key).or_optionally_insert_with(init)?;
         Some(entry.into_value())
@@ -414,7 +403,7 @@ impl<K: Eq + Hash + Sync + 'static, V: Clone + 'static, S: BuildHasher> Cache<K,
     where
         F: FnOnce() -> Result<V, E>,
         K: Borrow<Q>,
-        Q: Eq + Hash + Sync + ToOwned<Owned = K> + ?Sized,
+        Q: Eq + Hash + ToOwned<Owned = K> + ?Sized,
     {
         let entry = self.entry_by_ref(key).or_try_insert_with(init)?;
         Ok(entry.into_value())
@@ -443,7 +432,7 @@ impl<K: Eq + Hash + Sync + 'static, V: Clone + 'static, S: BuildHasher> Cache<K,
     pub fn entry_by_ref<'a, Q>(&'a mut self, key: &'a Q) -> RefKeyEntrySelector<'a, K, Q, V, S>
     where
         K: Borrow<Q>,
-        Q: Eq + Hash + Sync + ToOwned<Owned = K> + ?Sized,
+        Q: Eq + Hash + ToOwned<Owned = K> + ?Sized,
     {
         let hash = self.hasher.hash_one(key);
         RefKeyEntrySelector::new(self, hash, key)
@@ -461,9 +450,10 @@ impl<K: Eq + Hash + Sync + 'static, V: Clone + 'static, S: BuildHasher> Cache<K,
     pub fn remove<Q>(&mut self, key: &Q) -> Option<V>
     where
         K: Borrow<Q>,
-        Q: Eq + Hash + Sync + ?Sized,
+        Q: Eq + Hash + ?Sized,
     {
-        self.with_key(key, |shard, hash, test| shard.remove(hash, test))
+        let hash = self.hasher.hash_one(key);
+        self.with(|shard| shard.remove(hash, |kept| kept.borrow() == key))
     }
 
     /// Removes a key's entry. The listener is notified.
@@ -477,7 +467,7 @@ impl<K: Eq + Hash + Sync + 'static, V: Clone + 'static, S: BuildHasher> Cache<K,
     pub fn invalidate<Q>(&mut self, key: &Q)
     where
         K: Borrow<Q>,
-        Q: Eq + Hash + Sync + ?Sized,
+        Q: Eq + Hash + ?Sized,
     {
         drop(self.remove(key));
     }

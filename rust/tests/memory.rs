@@ -8,15 +8,13 @@ use std::panic::{AssertUnwindSafe, catch_unwind};
 use std::process::Command;
 use std::ptr;
 use std::sync::atomic::{AtomicUsize, Ordering};
-use std::sync::{Arc, Mutex, PoisonError, mpsc};
+use std::sync::{Arc, Mutex, MutexGuard, PoisonError, mpsc};
 
 /// The system's allocator, which notes the greatest size that was asked for, and refuses what exceeds a limit.
 struct Noting;
 
 static GREATEST: AtomicUsize = AtomicUsize::new(0);
 static LIMIT: AtomicUsize = AtomicUsize::new(usize::MAX);
-// The tests here are made one after the other.
-static ALONE: Mutex<()> = Mutex::new(());
 
 // SAFETY: all is left to the system's, but for what is refused.
 unsafe impl GlobalAlloc for Noting {
@@ -38,9 +36,17 @@ unsafe impl GlobalAlloc for Noting {
 #[global_allocator]
 static NOTING: Noting = Noting;
 
+/// The tests here are made one after the other. One that fails may leave its limit behind.
+fn alone() -> MutexGuard<'static, ()> {
+    static ALONE: Mutex<()> = Mutex::new(());
+    let alone = ALONE.lock().unwrap_or_else(PoisonError::into_inner);
+    LIMIT.store(usize::MAX, Ordering::Relaxed);
+    alone
+}
+
 #[test]
 fn an_entry_that_is_too_heavy_asks_for_no_more_memory() {
-    let _alone = ALONE.lock().unwrap_or_else(PoisonError::into_inner);
+    let _alone = alone();
     GREATEST.store(0, Ordering::Relaxed);
     let cache = Cache::<u32, _>::builder()
         .max_capacity(1000)
@@ -59,7 +65,7 @@ fn an_entry_that_is_too_heavy_asks_for_no_more_memory() {
 
 #[test]
 fn a_value_for_which_no_table_can_grow_leaves_at_once() {
-    let _alone = ALONE.lock().unwrap_or_else(PoisonError::into_inner);
+    let _alone = alone();
     let (sender, left) = mpsc::channel();
     let listener = move |key: Arc<u32>, value, cause| sender.send((*key, value, cause)).unwrap();
     let cache = Cache::<u32, _>::builder().shards(1).eviction_listener(listener).build();
@@ -91,6 +97,8 @@ fn a_value_for_which_no_table_can_grow_leaves_at_once() {
 #[test]
 fn an_iterator_that_is_refused_memory_leaves_nothing_out() {
     const NAME: &str = "an_iterator_that_is_refused_memory_leaves_nothing_out";
+    // No limit of another test holds while the process is started.
+    let _alone = alone();
     if env::var_os(NAME).is_some() {
         let cache = Cache::<u32, _>::builder().shards(1).build();
         (0..10_000).for_each(|key| cache.insert(key, key));
@@ -108,7 +116,7 @@ fn an_iterator_that_is_refused_memory_leaves_nothing_out() {
 
 #[test]
 fn a_cache_that_a_panic_emptied_asks_for_no_initial_room() {
-    let _alone = ALONE.lock().unwrap_or_else(PoisonError::into_inner);
+    let _alone = alone();
     let weigher = |_: &u32, value: &u32| {
         assert_ne!(*value, 13, "a weigher that panics");
         1

@@ -78,7 +78,7 @@ where
     K: Eq + Hash + Send + Sync + 'static,
     V: Clone + Send + Sync + 'static,
 {
-    /// A builder of a cache of at most `max_capacity` entries.
+    /// A builder of a cache of this [capacity](Self::max_capacity).
     ///
     /// ```
     /// use ravulemis::sync::CacheBuilder;
@@ -92,10 +92,10 @@ where
     setters!("sync", "cache");
 
     /// Is notified of each value that leaves, with key and cause, after the lock of its shard is released. By default
-    /// nobody is. It must not put back each value that leaves with `Size`: another leaves for it, so the call never
-    /// ends. With a listener a call lets a batch of at most 384 entries leave in each step of a run, however many
-    /// are due; the calls that follow go on. All whose own expiry has come leave at once, and so do all that exceed the
-    /// capacity.
+    /// nobody is. It may call the cache ([`Cache`] says how), but if it owns a clone of it that is never dropped. It
+    /// must not put back each value that leaves with `Size`: another leaves for it, so the call never ends. With a
+    /// listener a call lets a batch of at most 384 entries leave in each step of a run, however many are due; the calls
+    /// that follow go on. All whose own expiry has come leave at once, and so do all that exceed the capacity.
     ///
     /// ```
     /// # use ravulemis::sync::Cache;

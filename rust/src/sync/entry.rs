@@ -72,7 +72,7 @@ where
     pub fn entry_by_ref<'a, Q>(&'a self, key: &'a Q) -> RefKeyEntrySelector<'a, K, Q, V, S>
     where
         K: Borrow<Q>,
-        Q: Eq + Hash + Sync + ToOwned<Owned = K> + ?Sized,
+        Q: Eq + Hash + ToOwned<Owned = K> + ?Sized,
     {
         let hash = self.0.router.hasher().hash_one(key);
         RefKeyEntrySelector { cache: self, hash, key }
@@ -121,7 +121,7 @@ where
                     drop(calls.make(|shard| shard.insert(hash, key, value)));
                     None
                 }
-                None => calls.make(|shard| shard.remove(hash, &|kept| *kept == *key)),
+                None => calls.make(|shard| shard.remove(hash, |kept| *kept == *key)),
             }))
         })
     }
@@ -254,7 +254,10 @@ macro_rules! calls {
         }
 
         /// Puts the value that the closure makes of the entry, or of `None` if there is none. No other call of this
-        /// kind for the key is made meanwhile. The closure may call the cache, but none of this kind for its own key.
+        /// kind for the key is made meanwhile. The closure may call the cache.
+        ///
+        /// # Panics
+        /// If the closure panics, or makes a call of this kind for its own key.
         ///
         /// ```
         /// let cache = ravulemis::sync::Cache::new(100);
@@ -270,7 +273,10 @@ macro_rules! calls {
         }
 
         /// Puts a value, removes the entry or leaves it, as the closure answers of what is there. No other call of this
-        /// kind for the key is made meanwhile. The closure may call the cache, but none of this kind for its own key.
+        /// kind for the key is made meanwhile. The closure may call the cache.
+        ///
+        /// # Panics
+        /// If the closure panics, or makes a call of this kind for its own key.
         ///
         /// ```
         /// use ravulemis::ops::compute::{CompResult, Op};
@@ -333,7 +339,7 @@ where
 impl<K, Q, V, S> RefKeyEntrySelector<'_, K, Q, V, S>
 where
     K: Eq + Hash + Borrow<Q> + Send + Sync + 'static,
-    Q: Eq + Hash + Sync + ToOwned<Owned = K> + ?Sized,
+    Q: Eq + Hash + ToOwned<Owned = K> + ?Sized,
     V: Clone + Send + Sync + 'static,
     S: BuildHasher,
 {

@@ -124,7 +124,7 @@ where
     fn get_or_load_by_ref<Q>(&self, key: &Q, kind: TypeId, make: impl FnOnce() -> Outcome<V>) -> Outcome<V>
     where
         K: Borrow<Q>,
-        Q: Eq + Hash + Sync + ToOwned<Owned = K> + ?Sized,
+        Q: Eq + Hash + ToOwned<Owned = K> + ?Sized,
     {
         let hash = self.0.router.hasher().hash_one(key);
         let found = self.with(self.place(hash), |shard| shard.get(hash, |kept| kept.borrow() == key));
@@ -136,8 +136,14 @@ where
 
     /// A clone of a key's value, which is made and put there if it is missing. Of all who ask for a key at once by a
     /// call of this kind one makes the value, and the others wait for it. If the maker panics, the panic is its
-    /// caller's, and one of the others is the next to make. A maker may call the cache, but not for its own key, nor
-    /// may two makers wait for each other.
+    /// caller's, and one of the others is the next to make.
+    ///
+    /// If the key is inserted, removed or invalidated while its value is being made, what is made is put there all the
+    /// same, and replaces what was inserted meanwhile.
+    ///
+    /// # Panics
+    /// If the maker panics, or asks for its own key by a call of this kind. It may call the cache otherwise, but two
+    /// makers must not wait for each other.
     ///
     /// ```
     /// let cache = ravulemis::sync::Cache::new(100);
@@ -158,7 +164,7 @@ where
     pub fn get_with_by_ref<Q>(&self, key: &Q, init: impl FnOnce() -> V) -> V
     where
         K: Borrow<Q>,
-        Q: Eq + Hash + Sync + ToOwned<Owned = K> + ?Sized,
+        Q: Eq + Hash + ToOwned<Owned = K> + ?Sized,
     {
         let outcome = self.get_or_load_by_ref(key, TypeId::of::<Always>(), || made(init()));
         always(value_of(outcome))
@@ -187,7 +193,7 @@ where
     pub fn optionally_get_with_by_ref<Q>(&self, key: &Q, init: impl FnOnce() -> Option<V>) -> Option<V>
     where
         K: Borrow<Q>,
-        Q: Eq + Hash + Sync + ToOwned<Owned = K> + ?Sized,
+        Q: Eq + Hash + ToOwned<Owned = K> + ?Sized,
     {
         let outcome = self.get_or_load_by_ref(key, TypeId::of::<Optionally>(), || made_or_nothing(init()));
         value_of(outcome)
@@ -226,7 +232,7 @@ where
         F: FnOnce() -> Result<V, E>,
         E: Send + Sync + 'static,
         K: Borrow<Q>,
-        Q: Eq + Hash + Sync + ToOwned<Owned = K> + ?Sized,
+        Q: Eq + Hash + ToOwned<Owned = K> + ?Sized,
     {
         let outcome = self.get_or_load_by_ref(key, TypeId::of::<E>(), || made_or_failed(init()));
         Ok(always(value_of(shared_error(outcome)?)))

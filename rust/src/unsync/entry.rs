@@ -230,7 +230,7 @@ impl<'a, K: Eq + Hash + Sync + 'static, V: Clone + 'static, S: BuildHasher> Entr
 impl<'a, K, Q, V, S> RefKeyEntrySelector<'a, K, Q, V, S>
 where
     K: Eq + Hash + Borrow<Q> + Sync + 'static,
-    Q: Eq + Hash + Sync + ToOwned<Owned = K> + ?Sized,
+    Q: Eq + Hash + ToOwned<Owned = K> + ?Sized,
     V: Clone + 'static,
     S: BuildHasher,
 {

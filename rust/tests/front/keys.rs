@@ -3,6 +3,7 @@
 use ravulemis::ops::compute::{CompResult, Op};
 use ravulemis::{Entry, Expiry, RemovalCause};
 use std::borrow::Borrow;
+use std::cell::Cell;
 use std::hash::{Hash, Hasher};
 use std::sync::{Arc, mpsc};
 use std::time::{Duration, Instant};
@@ -47,6 +48,51 @@ impl ToOwned for Name {
 
 fn key(name: u32, id: u32) -> Key {
     Key { name: Name(name), id }
+}
+
+/// What has a name: another borrowed form of keys, which need not be `Sync`.
+trait Named {
+    fn name(&self) -> Name;
+}
+
+impl Named for Key {
+    fn name(&self) -> Name {
+        Name(self.name.0)
+    }
+}
+
+impl Named for Cell<u32> {
+    fn name(&self) -> Name {
+        Name(self.get())
+    }
+}
+
+impl PartialEq for dyn Named + '_ {
+    fn eq(&self, other: &Self) -> bool {
+        self.name() == other.name()
+    }
+}
+
+impl Eq for dyn Named + '_ {}
+
+impl Hash for dyn Named + '_ {
+    fn hash<H: Hasher>(&self, state: &mut H) {
+        self.name().hash(state);
+    }
+}
+
+impl<'a> Borrow<dyn Named + 'a> for Key {
+    fn borrow(&self) -> &(dyn Named + 'a) {
+        self
+    }
+}
+
+impl ToOwned for dyn Named + '_ {
+    type Owned = Key;
+
+    fn to_owned(&self) -> Key {
+        key(self.name().0, 2)
+    }
 }
 
 const OLD: u32 = 0;
@@ -327,6 +373,25 @@ macro_rules! tests {
                     assert_eq!(answered(*there, Op::Remove), (None, ("still none", put)));
                     assert_eq!(answered(*there, Op::Put(NEW)), (None, ("inserted", put)));
                 }
+            }
+
+            fn calls_by(it: &mut Cache<Key, u32>, name: &dyn Named) {
+                assert!(it.contains_key(name));
+                assert_eq!(it.get(name), Some(OLD));
+                assert_eq!(it.get_with_by_ref(name, || NEW), OLD);
+                assert_eq!(it.optionally_get_with_by_ref(name, || None), Some(OLD));
+                assert_eq!(it.try_get_with_by_ref(name, || Err("no")).ok(), Some(OLD));
+                assert_eq!(id(it.entry_by_ref(name).or_insert(NEW)), Some(1));
+                assert_eq!((it.remove(name), it.get(name)), (Some(OLD), None));
+                // By an owned key that is made.
+                assert_eq!(id(it.entry_by_ref(name).or_insert(NEW)), Some(2));
+                it.invalidate(name);
+                assert!(!it.contains_key(name));
+            }
+
+            #[test]
+            fn a_borrowed_form_need_not_be_sync() {
+                calls_by(&mut with_old(There::Visible, 0).0, &Cell::new(1_u32));
             }
         }
     };

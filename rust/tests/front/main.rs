@@ -2,8 +2,12 @@
 
 mod examples;
 mod keys;
+mod makers;
 mod notices;
 mod panics;
+mod policy;
 mod random;
 mod sync;
+mod types;
 mod unsync;
+mod waits;

@@ -1,5 +1,6 @@
 //! What leaves a shared cache: whom a call tells, for whom it waits, and where keys and values are dropped.
 
+use crate::waits::ends;
 use ravulemis::RemovalCause;
 use ravulemis::policy::EvictionPolicy;
 use ravulemis::sync::Cache;
@@ -12,16 +13,6 @@ use std::time::{Duration, Instant};
 
 fn count(counter: &AtomicU32) {
     counter.fetch_add(1, Ordering::SeqCst);
-}
-
-/// Whether a call comes back. One that does not is left behind.
-fn ends<R>(call: impl FnOnce() -> R + Send + 'static) -> bool {
-    let (sender, ended) = mpsc::channel();
-    thread::spawn(move || {
-        call();
-        sender.send(())
-    });
-    ended.recv_timeout(Duration::from_secs(10)).is_ok()
 }
 
 /// A cache of one shard whose listener is in the middle of a call by another thread, and waits for a lock, while 2,000
@@ -192,6 +183,37 @@ fn the_listener_is_told_between_the_runs_of_a_call() {
     cache.run_pending_tasks();
     assert_eq!(cache.entry_count(), 0);
     assert!(MOST.load(Ordering::SeqCst) > 0, "all had left before the first notice");
+}
+
+#[test]
+fn listeners_of_two_caches_may_call_each_other() {
+    const KEYS: u32 = 1000;
+    static ONE: OnceLock<Cache<u32, u32>> = OnceLock::new();
+    static OTHER: OnceLock<Cache<u32, u32>> = OnceLock::new();
+    static LEFT_ONE: Mutex<Vec<u32>> = Mutex::new(Vec::new());
+    static LEFT_OTHER: Mutex<Vec<u32>> = Mutex::new(Vec::new());
+    let listener = |key: Arc<u32>, value, _| {
+        let mut left = LEFT_ONE.try_lock().expect("a listener within itself");
+        left.push(*key);
+        OTHER.get().unwrap().insert(*key, value);
+    };
+    let one = ONE.get_or_init(|| Cache::builder().shards(4).eviction_listener(listener).build());
+    let listener = |key: Arc<u32>, _, _| {
+        let mut left = LEFT_OTHER.try_lock().expect("a listener within itself");
+        left.push(*key);
+        ONE.get().unwrap().remove(&(*key + 1));
+    };
+    let other = OTHER.get_or_init(|| Cache::builder().shards(4).eviction_listener(listener).build());
+    for key in 0..KEYS {
+        one.insert(key, key);
+        other.insert(key, KEYS);
+    }
+    assert!(ends(move || one.invalidate(&0)));
+    let all: Vec<_> = (0..KEYS).collect();
+    assert_eq!(*LEFT_ONE.lock().unwrap(), all);
+    assert_eq!(*LEFT_OTHER.lock().unwrap(), all);
+    assert_eq!((one.iter().count(), other.iter().count()), (0, all.len()));
+    assert!(all.iter().all(|key| other.get(key) == Some(*key)));
 }
 
 #[test]

@@ -1,5 +1,6 @@
 //! The cache that threads share.
 
+use crate::waits::{Watched, ends, watched, with_one_who_waits};
 use ravulemis::ops::compute::{CompResult, Op};
 use ravulemis::sync::{Cache, CacheBuilder};
 use ravulemis::{EvictionPolicy, Expiry, RemovalCause};
@@ -172,17 +173,59 @@ impl Clone for Slow {
 
 #[test]
 fn a_value_that_was_taken_out_is_not_handed_out_by_its_maker() {
-    let (cache, clones) = (Cache::new(100), Arc::default());
+    let (cache, clones) = (Cache::<Watched, Slow>::new(100), Arc::<AtomicU32>::default());
     let slow = |number| Slow(number, Arc::clone(&clones));
+    let made = slow(1);
     thread::scope(|scope| {
-        // The first clone is put there, the second is for those who wait.
-        scope.spawn(|| cache.get_with('a', || slow(1)));
-        while clones.load(Ordering::SeqCst) < 2 {
+        // The first clone is put there, the second is for the one who waits.
+        let asks = scope.spawn(|| {
+            with_one_who_waits(
+                &cache,
+                move |cache, key, wait| {
+                    cache.get_with(key, || {
+                        wait();
+                        made
+                    })
+                },
+                |cache, key| cache.get_with(key, || unreachable!()),
+            )
+        });
+        while clones.load(Ordering::SeqCst) < 2 && !asks.is_finished() {
             thread::yield_now();
         }
-        assert_eq!(cache.remove(&'a').map(|value| value.0), Some(1));
-        assert_eq!(cache.get_with('a', || slow(2)).0, 2);
+        let (key, _) = watched(1);
+        assert_eq!(cache.remove(&key).map(|value| value.0), Some(1));
+        assert_eq!(cache.get_with(key, || slow(2)).0, 2);
     });
+}
+
+#[test]
+fn a_value_for_which_nobody_waits_is_cloned_once() {
+    type Call = fn(&Cache<Watched, Slow>, Watched, Slow);
+    let calls: [(&str, Call); 7] = [
+        ("get_with", |it, key, value| drop(it.get_with(key, || value))),
+        ("get_with_by_ref", |it, key, value| {
+            it.get_with_by_ref(&key, || value);
+        }),
+        ("optionally_get_with", |it, key, value| {
+            it.optionally_get_with(key, || Some(value));
+        }),
+        ("try_get_with", |it, key, value| {
+            assert!(it.try_get_with(key, || Ok::<_, ()>(value)).is_ok());
+        }),
+        ("or_insert", |it, key, value| drop(it.entry(key).or_insert(value))),
+        ("or_insert_with", |it, key, value| {
+            it.entry_by_ref(&key).or_insert_with(|| value);
+        }),
+        ("and_upsert_with", |it, key, value| {
+            it.entry(key).and_upsert_with(|_| value);
+        }),
+    ];
+    for (name, call) in calls {
+        let clones = Arc::<AtomicU32>::default();
+        call(&Cache::new(100), watched(1).0, Slow(1, Arc::clone(&clones)));
+        assert_eq!(clones.load(Ordering::SeqCst), 1, "{name}");
+    }
 }
 
 /// A key that is cloned after a look-up in vain: before the value is made, another is put there.
@@ -478,16 +521,6 @@ fn a_listener_is_never_called_within_itself() {
     assert_eq!(cache.get(&0), None);
     cache.run_pending_tasks();
     assert_eq!(left.lock().unwrap().len(), 1000);
-}
-
-/// Whether a call comes back. One that does not is left behind.
-fn ends<R>(call: impl FnOnce() -> R + Send + 'static) -> bool {
-    let (sender, ended) = mpsc::channel();
-    thread::spawn(move || {
-        call();
-        sender.send(())
-    });
-    ended.recv_timeout(Duration::from_secs(10)).is_ok()
 }
 
 #[test]
