@@ -66,6 +66,7 @@ mod key;
 #[cfg(test)]
 mod look_ups;
 mod making;
+mod mark;
 mod notices;
 pub mod policy;
 #[cfg(test)]

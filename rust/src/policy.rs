@@ -24,6 +24,7 @@ pub use crate::engine::moka_engine::EvictionPolicy;
 
 use crate::engine::moka_engine as engine;
 use crate::key::Key;
+use crate::mark::Mark;
 use std::iter::Sum;
 use std::ops::{Add, AddAssign, Deref};
 use std::sync::Arc;
@@ -353,9 +354,11 @@ impl Sum for Stats {
     }
 }
 
-/// The engine's expiry: the caller's, asked with moments of std.
+/// The engine's expiry: the caller's, asked with moments of std. It is asked before a look-up or an insert changes
+/// anything.
 pub(crate) struct Asked<K, V> {
     pub expiry: Arc<dyn Expiry<K, V> + Send + Sync>,
+    pub mark: Mark,
     /// The engine's moment 0.
     pub start: Instant,
 }
@@ -369,7 +372,9 @@ impl<K, V> Asked<K, V> {
 impl<K, V> engine::Expiry<Key<'_, K>, V> for Asked<K, V> {
     fn expire_after_create(&self, key: &Key<'_, K>, value: &V, created_at: engine::Instant) -> Option<Duration> {
         let key = key.shared()?;
-        self.expiry.expire_after_create(key, value, self.moment(created_at))
+        let created_at = self.moment(created_at);
+        self.mark
+            .before_changes(|| self.expiry.expire_after_create(key, value, created_at))
     }
 
     fn expire_after_read(
@@ -382,8 +387,10 @@ impl<K, V> engine::Expiry<Key<'_, K>, V> for Asked<K, V> {
     ) -> Option<Duration> {
         let (read_at, last_modified_at) = (self.moment(read_at), self.moment(last_modified_at));
         let key = key.shared()?;
-        self.expiry
-            .expire_after_read(key, value, read_at, left, last_modified_at)
+        self.mark.before_changes(|| {
+            self.expiry
+                .expire_after_read(key, value, read_at, left, last_modified_at)
+        })
     }
 
     fn expire_after_update(
@@ -393,8 +400,8 @@ impl<K, V> engine::Expiry<Key<'_, K>, V> for Asked<K, V> {
         updated_at: engine::Instant,
         left: Option<Duration>,
     ) -> Option<Duration> {
-        let key = key.shared()?;
-        self.expiry
-            .expire_after_update(key, value, self.moment(updated_at), left)
+        let (key, updated_at) = (key.shared()?, self.moment(updated_at));
+        self.mark
+            .before_changes(|| self.expiry.expire_after_update(key, value, updated_at, left))
     }
 }

@@ -1,6 +1,7 @@
 //! What a cache is built with.
 
 use crate::engine::moka_engine as engine;
+use crate::mark::Mark;
 use crate::notices::Told;
 use crate::{EvictionPolicy, Expiry};
 use std::fmt;
@@ -73,22 +74,28 @@ impl<K, V> fmt::Debug for Settings<K, V> {
 
 /// The engine's weigher. What is too heavy to be kept weighs one more than the capacity: the engine makes its sketch as
 /// long as the weight of all asks, so one entry of a great weight would take gigabytes.
+///
+/// It is asked before an insert changes anything.
 pub(crate) struct Weighing<K, V> {
     weigher: Weighs<K, V>,
     most: u32,
+    mark: Mark,
 }
 
 impl<K, V> Weighing<K, V> {
-    pub fn new(weigher: Weighs<K, V>, capacity: Option<u64>) -> Self {
+    pub fn new(weigher: Weighs<K, V>, capacity: Option<u64>, mark: Mark) -> Self {
         let most = capacity.and_then(|capacity| u32::try_from(capacity).ok()?.checked_add(1));
         let most = most.unwrap_or(u32::MAX);
-        Weighing { weigher, most }
+        Weighing { weigher, most, mark }
     }
 }
 
 impl<K, V> engine::Weigher<crate::key::Key<'_, K>, V> for Weighing<K, V> {
     fn weigh(&self, key: &crate::key::Key<'_, K>, value: &V) -> u32 {
-        key.shared().map_or(0, |key| (self.weigher)(key, value).min(self.most))
+        let Some(key) = key.shared() else {
+            return 0;
+        };
+        self.mark.before_changes(|| (self.weigher)(key, value)).min(self.most)
     }
 }
 

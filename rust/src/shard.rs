@@ -2,10 +2,11 @@
 //!
 //! Each call of the front is one or two of its calls, and what those cannot have:
 //!
-//! - Panics of the caller's `Eq`. Look-ups and removals go by its calls with a test of the key, which compare keys only
-//!   while nothing is half changed; so a comparison that panics harms nothing (`ByTest`). An insert goes by the address
-//!   of the key that is kept, which is looked up before, by a key that stands for a test (`kept`): the engine hands out
-//!   no key by a test.
+//! - Panics of the caller's own code. The engine compares keys, weighs, asks the expiry, and clones what it looks up,
+//!   only before it changes anything. So these harm nothing, and a mark says whether a panic came later: in a run, or
+//!   where a value that was taken out is cloned for the listener. Look-ups and removals go by calls with a test of the
+//!   key; an insert goes by the address of the key that is kept, which is looked up before, by a key that stands for a
+//!   test (`kept`): the engine hands out no key by a test.
 //! - Makers and entry calls. Its `get_with`, `entry` and their kin look a key up and put it there in one call, by the
 //!   key's own `Eq` and at one moment, that of their start. Here a call looks it up by a test, and puts it under the key
 //!   that is kept; and a caller's maker may take longer than an entry lasts, so the value is put there at a moment after
@@ -20,6 +21,7 @@ use crate::engine::moka_engine::{
 use crate::engine::moka_parts::error::PredicateError;
 use crate::engine::moka_parts::key_test::KeyTest;
 use crate::key::{Carried, Key, Test, address, note_comparison};
+use crate::mark::Mark;
 use crate::notices::{Left, Teller};
 use crate::policy::Asked;
 use crate::settings::{Settings, Testing, Tests, Weighing};
@@ -32,7 +34,7 @@ use std::cell::OnceCell;
 use std::hash::Hash;
 use std::mem;
 use std::sync::Arc;
-use std::sync::atomic::{AtomicBool, AtomicU64, Ordering::Relaxed};
+use std::sync::atomic::{AtomicU64, Ordering::Relaxed};
 use std::time::Duration;
 
 // The listener is there always, since it counts.
@@ -51,14 +53,26 @@ const RUNS_A_VISIT: u32 = 16;
 const QUIET: u64 = 300_000_000;
 const HASH_OF_NO_KEY: u64 = 0xb5ad_4ece_da1c_e2a9;
 
-/// Nanoseconds since the cache was built.
-#[derive(Clone, Copy)]
-struct Elapsed(std::time::Instant);
+/// Nanoseconds since the cache was built. What the engine reads of it sets the mark: a run that a call makes reads it
+/// before its first pass, and only from then on runs the caller's own code in the middle of a change, except where a
+/// value is taken out.
+struct Elapsed {
+    start: std::time::Instant,
+    mark: Mark,
+}
+
+impl Elapsed {
+    #[inline]
+    fn read(&self) -> Instant {
+        Instant(u64::try_from(self.start.elapsed().as_nanos()).unwrap_or(u64::MAX))
+    }
+}
 
 impl Clock for Elapsed {
     #[inline]
     fn now(&mut self) -> Instant {
-        Instant(u64::try_from(self.0.elapsed().as_nanos()).unwrap_or(u64::MAX))
+        self.mark.set();
+        self.read()
     }
 }
 
@@ -71,32 +85,28 @@ impl IdSource for Chosen {
     }
 }
 
-/// A test of the caller's in the middle of a call. While it runs the mark of the call is taken away: the engine
-/// compares keys only while nothing is half changed.
+/// A test of the caller's in a call that then takes an entry out.
 struct ByTest<'a, F> {
     test: F,
-    is_in_call: &'a AtomicBool,
+    mark: &'a Mark,
 }
 
 impl<K: Eq + Hash, F: Fn(&Arc<K>) -> bool> KeyTest<Key<'static, K>> for ByTest<'_, F> {
     #[inline]
     fn is_key(&self, key: &Key<'static, K>) -> bool {
         note_comparison();
-        self.is_in_call.store(false, Relaxed);
-        let is_key = key.shared().is_some_and(&self.test);
-        self.is_in_call.store(true, Relaxed);
-        is_key
+        self.mark.before_changes(|| key.shared().is_some_and(&self.test))
     }
 }
 
-/// A test of the caller's in a call that changes nothing.
+/// A test of the caller's in a call that is not marked.
 struct Passing<F>(F);
 
-impl<K: Eq + Hash, F: Fn(&K) -> bool> KeyTest<Key<'static, K>> for Passing<F> {
+impl<K: Eq + Hash, F: Fn(&Arc<K>) -> bool> KeyTest<Key<'static, K>> for Passing<F> {
     #[inline]
     fn is_key(&self, key: &Key<'static, K>) -> bool {
         note_comparison();
-        key.shared().is_some_and(|kept| (self.0)(kept))
+        key.shared().is_some_and(&self.0)
     }
 }
 
@@ -147,8 +157,6 @@ pub(crate) struct Shard<K: 'static, V> {
     // Look-ups of nobody's, and reads of what a call had looked up before.
     unasked: u64,
     rereads: u64,
-    // Stays set if a caller's own code panicked in the middle of a call.
-    is_in_call: AtomicBool,
     is_timed: bool,
     settings: Arc<Settings<K, V>>,
     capacity: Option<u64>,
@@ -164,9 +172,10 @@ impl<K: Eq + Hash + 'static, V> Shard<K, V> {
         visits: Visits,
         start: std::time::Instant,
     ) -> Self {
-        let clock = Elapsed(start);
+        let mark = Mark::default();
+        let clock = Elapsed { start, mark };
         Shard {
-            cache: cache(&settings, settings.initial_capacity, capacity, clock),
+            cache: cache(&settings, settings.initial_capacity, capacity, &clock),
             clock,
             now: Instant(0),
             calls_until_reading: 0,
@@ -175,7 +184,6 @@ impl<K: Eq + Hash + 'static, V> Shard<K, V> {
             is_visit_due: false,
             unasked: 0,
             rereads: 0,
-            is_in_call: AtomicBool::new(false),
             is_timed: settings.is_timed(),
             settings,
             capacity,
@@ -194,41 +202,24 @@ impl<K: Eq + Hash + 'static, V> Shard<K, V> {
     #[cold]
     fn empty(&mut self) {
         // The initial room is not asked for again, since it may be refused while the old cache is there.
-        let empty = cache(&self.settings, None, self.capacity, self.clock);
+        let empty = cache(&self.settings, None, self.capacity, &self.clock);
         self.counted = self.stats();
         (self.unasked, self.rereads) = (0, 0);
         self.cache = empty;
-        *self.is_in_call.get_mut() = false;
+        self.clock.mark.clear();
     }
 
-    /// Whether a panic left the cache in the middle of a call, so that the next change empties it.
+    /// Whether a panic left the cache in the middle of a change, so that the next call that may change it empties it.
     pub fn is_broken(&self) -> bool {
-        self.is_in_call.load(Relaxed)
+        self.clock.mark.is_set()
     }
 
-    // Makes a call that changes the cache. A panic of the caller's own code leaves the mark.
+    // Makes a call that changes the cache. A panic of the caller's own code leaves the mark, unless it came before.
     #[inline]
     fn change<R>(&mut self, call: impl FnOnce(&mut Cache<K, V>, &mut Elapsed) -> R) -> R {
-        *self.is_in_call.get_mut() = true;
+        self.clock.mark.set();
         let answer = call(&mut self.cache, &mut self.clock);
-        *self.is_in_call.get_mut() = false;
-        answer
-    }
-
-    // The same by a test of the caller's, a panic of which leaves no mark.
-    #[inline]
-    fn change_by<F, R>(
-        &mut self,
-        test: F,
-        call: impl FnOnce(&mut Cache<K, V>, &ByTest<'_, F>, &mut Elapsed) -> R,
-    ) -> R {
-        *self.is_in_call.get_mut() = true;
-        let by = ByTest {
-            test,
-            is_in_call: &self.is_in_call,
-        };
-        let answer = call(&mut self.cache, &by, &mut self.clock);
-        *self.is_in_call.get_mut() = false;
+        self.clock.mark.clear();
         answer
     }
 
@@ -236,7 +227,7 @@ impl<K: Eq + Hash + 'static, V> Shard<K, V> {
     #[inline]
     fn read_clock(&mut self) -> Instant {
         if self.is_timed || self.calls_until_reading == 0 {
-            self.now = self.now.max(self.clock.now());
+            self.now = self.now.max(self.clock.read());
             self.calls_until_reading = CALLS_A_READING;
             if self.now >= self.visit_at {
                 self.plan_visit();
@@ -265,7 +256,7 @@ impl<K: Eq + Hash + 'static, V> Shard<K, V> {
     where
         V: Clone,
     {
-        let now = self.clock.now();
+        let now = self.clock.read();
         if now.0.saturating_sub(self.now.0) < QUIET {
             return;
         }
@@ -304,7 +295,7 @@ impl<K: Eq + Hash + 'static, V> Shard<K, V> {
 
     // A moment after all writes before this call, and before all after it.
     fn moment_between(&mut self) -> Instant {
-        let between = self.clock.now().max(Instant(self.now.0.saturating_add(1)));
+        let between = self.clock.read().max(Instant(self.now.0.saturating_add(1)));
         self.now = Instant(between.0.saturating_add(1));
         between
     }
@@ -314,8 +305,7 @@ impl<K: Eq + Hash + 'static, V> Shard<K, V> {
         if !self.is_timed {
             return self.now;
         }
-        let mut clock = self.clock;
-        self.now.max(clock.now())
+        self.now.max(self.clock.read())
     }
 
     // The key that is kept, by a test of the caller's. Nothing changes, so a panic of the test harms nothing.
@@ -333,7 +323,8 @@ impl<K: Eq + Hash + 'static, V> Shard<K, V> {
         V: Clone,
     {
         let now = self.read_clock();
-        let found = self.change_by(test, |cache, by, clock| cache.get_by(by, hash, now, clock));
+        let found = self.cache.get_by(&Passing(test), hash, now, &mut self.clock);
+        self.clock.mark.clear();
         self.keep_bound(now);
         found.ok().flatten()
     }
@@ -399,6 +390,7 @@ impl<K: Eq + Hash + 'static, V> Shard<K, V> {
     }
 
     pub fn contains(&self, hash: u64, test: impl Fn(&K) -> bool) -> bool {
+        let test = |kept: &Arc<K>| test(kept);
         self.cache.contains_key_by(&Passing(test), hash, self.glance())
     }
 
@@ -483,8 +475,11 @@ impl<K: Eq + Hash + 'static, V> Shard<K, V> {
         V: Clone,
     {
         let now = self.read_clock();
+        let mark = &self.clock.mark.clone();
         let test = |kept: &Arc<K>| test(kept);
-        let removed = self.change_by(test, |cache, by, clock| cache.remove_by(by, hash, now, clock));
+        mark.set();
+        let removed = self.cache.remove_by(&ByTest { test, mark }, hash, now, &mut self.clock);
+        mark.clear();
         self.keep_bound(now);
         removed.unwrap_or_else(|NotTold { value, .. }| Some(value))
     }
@@ -622,7 +617,7 @@ fn cache<K: 'static, V>(
     settings: &Settings<K, V>,
     room: Option<usize>,
     capacity: Option<u64>,
-    mut clock: Elapsed,
+    clock: &Elapsed,
 ) -> Cache<K, V> {
     let has_listener = settings.listener.is_some();
     let mut expirations = ExpirationPolicy::default();
@@ -633,8 +628,11 @@ fn cache<K: 'static, V>(
         expirations.set_time_to_idle(duration);
     }
     if let Some(expiry) = &settings.expiry {
-        let (expiry, start) = (Arc::clone(expiry), clock.0);
-        expirations.set_expiry(Asked { expiry, start });
+        expirations.set_expiry(Asked {
+            expiry: Arc::clone(expiry),
+            mark: clock.mark.clone(),
+            start: clock.start,
+        });
     }
     let weigher = settings.weigher.clone();
     let engine = BaseCache::new(
@@ -643,13 +641,13 @@ fn cache<K: 'static, V>(
         capacity,
         room,
         Carried,
-        weigher.map(|weigher| Weighing::new(weigher, capacity)),
+        weigher.map(|weigher| Weighing::new(weigher, capacity, clock.mark.clone())),
         settings.eviction_policy,
         Some(CountingListener::new(Teller::new(has_listener))),
         expirations,
         housekeeping(has_listener),
         settings.takes_closures,
-        clock.now(),
+        clock.read(),
         1,
     );
     Cache::new(engine.unwrap_or_else(|_| panic!("no memory for the initial capacity of a cache")))

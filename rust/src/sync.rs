@@ -81,12 +81,14 @@ struct Shared<K: 'static, V, S> {
 /// otherwise they are dropped after the lock is released.
 ///
 /// # Panics of the caller's own code
-/// If the weigher, the expiry, a predicate or the `Clone` of a value panics in the middle of a call, `get` among them,
-/// the shard is **emptied** by the next call for it: its entries are gone, and the listener is not notified of them.
-/// That is the whole cache if there is one shard, as by default with a weigher or a capacity below 2,048. The panic
-/// goes on to the caller whose call it was. A panic of `Eq`, `Hash` or `Drop` (but that of what a predicate has
-/// captured), of a maker of `get_with`, of a closure of an entry or of the listener changes nothing; after its first
-/// panic the listener is not notified again.
+/// A panic goes on to the caller whose call it was. One of `Eq`, `Hash`, the weigher, the expiry, a predicate or `Clone`
+/// in a look-up, a maker of `get_with`, a closure of an entry, the listener, or `Drop` (but that of what a predicate
+/// has captured) changes nothing; after its first panic the listener is not notified again.
+///
+/// If a predicate panics in a run of maintenance, or the `Clone` of a value that is taken out by `remove`, `invalidate`
+/// or an entry call, the shard is **emptied** by the next call for it: its entries are gone, and the listener is not
+/// notified of them. That is the whole cache if there is one shard, as by default with a weigher or a capacity below
+/// 2,048.
 pub struct Cache<K: 'static, V, S = RandomState>(Arc<Shared<K, V, S>>);
 
 impl<K, V, S> Clone for Cache<K, V, S> {

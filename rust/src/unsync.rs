@@ -32,10 +32,11 @@ pub type PredicateId = String;
 /// The listener is called at the end of the call by which values left, in the order in which they left.
 ///
 /// # Panics of the caller's own code
-/// If the weigher, the expiry, a predicate or the `Clone` of a value panics in the middle of a call, `get` among them,
-/// the cache is **emptied** by the next call that changes it: its entries are gone, and the listener is not notified of
-/// them. A panic of `Eq`, `Hash` or `Drop` (but that of what a predicate has captured), of a maker of `get_with` or of
-/// the listener changes nothing; after its first panic the listener is not notified again.
+/// A panic of `Eq`, `Hash`, the weigher, the expiry, a predicate or `Clone` in a look-up, a maker of `get_with`, the
+/// listener, or `Drop` (but that of what a predicate has captured) changes nothing; after its first panic the listener
+/// is not notified again. If a predicate panics in a run of maintenance, or the `Clone` of a value that is taken out,
+/// the cache is **emptied** by the next call that may change it: its entries are gone, and the listener is not notified
+/// of them.
 pub struct Cache<K: 'static, V, S = RandomState> {
     shard: Shard<K, V>,
     notices: Option<Notices<K, V>>,

@@ -35,7 +35,7 @@ enum ravulemis_code {
   RAVULEMIS_BAD_ARGUMENT = -1,
   /* The cache was destroyed. */
   RAVULEMIS_DESTROYED = -2,
-  /* A fault of the library's own. The shard of the key is emptied by the next call for it. */
+  /* A fault of the library's own. The shard of the key may be emptied by the next call for it. */
   RAVULEMIS_FAULT = -3,
   /* The cache was created without `supports_predicates`. */
   RAVULEMIS_UNSUPPORTED = -4

@@ -4,10 +4,11 @@ use std::fs;
 use std::path::{Path, PathBuf};
 
 // All that these have is the package's own, but for the builders' setters in `settings.rs`.
-const INTERNAL: [&str; 7] = [
+const INTERNAL: [&str; 8] = [
     "key.rs",
     "look_ups.rs",
     "making.rs",
+    "mark.rs",
     "notices.rs",
     "random_calls.rs",
     "shard.rs",

@@ -1,7 +1,7 @@
 //! What follows where the caller's own code panics.
 
 use ravulemis::{Expiry, sync, unsync};
-use std::hash::{Hash, Hasher};
+use std::hash::{BuildHasherDefault, DefaultHasher, Hash, Hasher};
 use std::panic::{AssertUnwindSafe, catch_unwind};
 use std::sync::Arc;
 use std::sync::atomic::{AtomicBool, AtomicU32, Ordering};
@@ -23,20 +23,43 @@ impl Clone for Fragile {
 }
 
 #[test]
-fn a_clone_that_panics_empties_the_shard() {
+fn a_clone_of_what_is_looked_up_that_panics_changes_nothing() {
     let breaks = Arc::new(AtomicBool::new(false));
-    let cache = sync::Cache::<u32, _>::builder().max_capacity(100).shards(2).build();
+    let cache = sync::Cache::<u32, _>::new(100);
     for key in 0..50 {
         cache.insert(key, Fragile(key, Arc::clone(&breaks)));
     }
     breaks.store(true, Ordering::SeqCst);
-    assert!(panics(|| cache.get(&1)));
+    for _ in 0..100 {
+        assert!(panics(|| cache.get(&1)));
+    }
+    assert!(panics(|| cache.entry(1).or_insert_with(|| unreachable!())));
+    assert!(panics(|| cache.iter().count()));
+    breaks.store(false, Ordering::SeqCst);
+    assert!((0..50).all(|key| cache.get(&key).is_some_and(|it| it.0 == key)));
+    cache.run_pending_tasks();
+    assert_eq!(
+        (cache.entry_count(), cache.stats().hits, cache.stats().misses),
+        (50, 50, 0)
+    );
+}
+
+#[test]
+fn a_clone_of_what_is_taken_out_that_panics_empties_the_shard() {
+    let breaks = Arc::new(AtomicBool::new(false));
+    let builder = sync::Cache::<u32, _>::builder().max_capacity(100).shards(2);
+    let cache = builder.build_with_hasher(BuildHasherDefault::<DefaultHasher>::default());
+    for key in 0..50 {
+        cache.insert(key, Fragile(key, Arc::clone(&breaks)));
+    }
+    breaks.store(true, Ordering::SeqCst);
+    assert!(panics(|| cache.invalidate(&1)));
     breaks.store(false, Ordering::SeqCst);
     let left = (0..50)
         .filter(|key| cache.get(key).is_some_and(|it| it.0 == *key))
         .count();
     assert!(
-        0 < left && left < 50,
+        10 < left && left < 40,
         "one of two shards was emptied, {left} entries are left"
     );
     assert!(cache.get(&1).is_none());
@@ -47,7 +70,7 @@ fn a_clone_that_panics_empties_the_shard() {
 }
 
 #[test]
-fn a_weigher_that_panics_empties_the_cache() {
+fn a_weigher_that_panics_changes_nothing() {
     let weigher = |_: &u32, value: &u32| {
         if *value == 13 {
             panic!("a weigher that panics")
@@ -56,21 +79,17 @@ fn a_weigher_that_panics_empties_the_cache() {
         }
     };
     let mut cache = unsync::Cache::<u32, _>::builder().weigher(weigher).build();
-    cache.insert(1, 1);
-    assert!(panics(|| cache.insert(2, 13)));
-    assert_eq!(
-        (cache.contains_key(&1), cache.iter().count(), cache.entry_count()),
-        (false, 0, 0)
-    );
+    for _ in 0..100 {
+        cache.insert(1, 1);
+        assert!(panics(|| cache.insert(1, 13)) && panics(|| cache.insert(2, 13)));
+    }
     cache.insert(3, 3);
     cache.run_pending_tasks();
-    assert_eq!(
-        (cache.get(&1), cache.get(&3), cache.weighted_size()),
-        (None, Some(3), 3)
-    );
+    assert_eq!((cache.get(&1), cache.get(&2), cache.get(&3)), (Some(1), None, Some(3)));
+    assert_eq!((cache.entry_count(), cache.weighted_size()), (2, 4));
 }
 
-/// An expiry that panics about a new value of 13, and about a read of 14.
+/// An expiry that panics about a new value of 13, a read of 14, and 15 in another's place.
 struct Fearful;
 
 impl Expiry<u32, u32> for Fearful {
@@ -90,39 +109,77 @@ impl Expiry<u32, u32> for Fearful {
         assert!(*value != 14, "an expiry that panics");
         left
     }
+
+    fn expire_after_update(&self, _: &u32, value: &u32, _: Instant, left: Option<Duration>) -> Option<Duration> {
+        assert!(*value != 15, "an expiry that panics");
+        left
+    }
 }
 
 #[test]
-fn an_expiry_that_panics_empties_the_cache() {
+fn an_expiry_that_panics_changes_nothing() {
     let mut cache = unsync::Cache::<u32, _>::builder().expire_after(Fearful).build();
     cache.insert(1, 1);
-    assert!(panics(|| cache.insert(2, 13)));
-    assert_eq!((cache.contains_key(&1), cache.entry_count()), (false, 0));
-    cache.insert(1, 1);
     cache.insert(3, 14);
-    assert!(panics(|| cache.get(&3)));
-    assert_eq!((cache.get(&1), cache.get(&3)), (None, None));
-    cache.insert(4, 4);
-    assert_eq!(cache.get(&4), Some(4));
+    for _ in 0..100 {
+        assert!(panics(|| cache.insert(2, 13)) && panics(|| cache.insert(1, 15)) && panics(|| cache.get(&3)));
+    }
+    cache.run_pending_tasks();
+    assert_eq!((cache.get(&1), cache.get(&2)), (Some(1), None));
+    assert_eq!((cache.contains_key(&3), cache.entry_count()), (true, 2));
 }
 
-#[test]
-fn a_predicate_that_panics_empties_the_cache() {
-    let mut cache = unsync::Cache::<u32, _>::builder()
-        .support_invalidation_closures()
-        .build();
-    cache.insert(1, 'a');
-    cache.insert(2, 'b');
-    let predicate = |key: &u32, _: &char| {
-        assert!(*key != 1, "a predicate that panics");
+/// A cache of two entries and of 100 more, with a predicate that panics about the first while it is told to.
+fn with_a_predicate(breaks: &Arc<AtomicBool>) -> unsync::Cache<u32, char> {
+    let mut cache = unsync::Cache::builder().support_invalidation_closures().build();
+    for key in 1..=102 {
+        cache.insert(key, 'a');
+    }
+    cache.run_pending_tasks();
+    let breaks = Arc::clone(breaks);
+    let predicate = move |key: &u32, _: &char| {
+        assert!(*key != 1 || !breaks.load(Ordering::SeqCst), "a predicate that panics");
         false
     };
     cache.invalidate_entries_if(predicate).unwrap();
-    assert_eq!(cache.get(&2), Some('b'));
-    assert!(panics(|| cache.get(&1)));
-    assert_eq!((cache.get(&2), cache.entry_count()), (None, 0));
-    cache.insert(1, 'c');
-    assert_eq!(cache.get(&1), Some('c'));
+    cache
+}
+
+#[test]
+fn a_predicate_that_panics_in_a_look_up_changes_nothing() {
+    let breaks = Arc::new(AtomicBool::new(true));
+    let mut cache = with_a_predicate(&breaks);
+    for _ in 0..50 {
+        assert!(panics(|| cache.get(&1)) && panics(|| cache.contains_key(&1)));
+    }
+    assert_eq!(cache.get(&2), Some('a'));
+    breaks.store(false, Ordering::SeqCst);
+    cache.run_pending_tasks();
+    assert_eq!((cache.get(&1), cache.entry_count()), (Some('a'), 102));
+}
+
+#[test]
+fn a_predicate_that_panics_in_a_run_empties_the_cache() {
+    type Call = fn(&mut unsync::Cache<u32, char>);
+    let calls: [(&str, Call); 4] = [
+        ("get", |it| _ = it.get(&2)),
+        ("get of a missing key", |it| _ = it.get(&0)),
+        ("insert", |it| it.insert(2, 'b')),
+        ("run_pending_tasks", |it| it.run_pending_tasks()),
+    ];
+    for (name, call) in calls {
+        let mut cache = with_a_predicate(&Arc::new(AtomicBool::new(true)));
+        // One of so many calls makes a run.
+        assert!((0..1000).any(|_| panics(|| call(&mut cache))), "{name}");
+        assert!(!cache.contains_key(&2), "{name}");
+        cache.insert(1, 'c');
+        cache.run_pending_tasks();
+        assert_eq!(
+            (cache.get(&1), cache.get(&2), cache.entry_count()),
+            (Some('c'), None, 1),
+            "{name}"
+        );
+    }
 }
 
 #[test]
@@ -138,10 +195,12 @@ fn a_predicate_that_panics_in_two_shards_ends_no_process() {
     thread::sleep(Duration::from_millis(400));
     assert!(panics(|| cache.get(&0)));
     for key in 1..1000 {
-        panics(|| cache.get(&key));
+        panics(|| cache.insert(key, 'b'));
     }
-    cache.insert(1, 'b');
-    assert_eq!((cache.get(&0), cache.get(&1)), (None, Some('b')));
+    // What a run leaves half done the next call empties, the predicate with it.
+    while panics(|| cache.run_pending_tasks()) {}
+    cache.insert(1, 'c');
+    assert_eq!((cache.get(&0), cache.get(&1)), (None, Some('c')));
 }
 
 /// A value whose drop panics if it is 13.
@@ -278,7 +337,7 @@ fn what_was_counted_outlives_a_panic() {
     cache.get_with(1, || Fragile(1, Arc::clone(&breaks)));
     cache.get(&1);
     breaks.store(true, Ordering::SeqCst);
-    assert!(panics(|| cache.get(&1)));
+    assert!(panics(|| cache.remove(&1)));
     assert!(cache.get(&1).is_none());
     let stats = cache.stats();
     assert_eq!((stats.hits, stats.misses, stats.loads), (1, 2, 1));
