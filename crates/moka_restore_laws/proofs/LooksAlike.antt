@@ -258,11 +258,11 @@ module _ {K V X L P W C : Type 0} (m : Meaning K V X L P W C (Unit {0})) (laws :
         expiry = ap (λ (x : Settings X W). x.expiry) like.made_again.hides.settings ∙ like.expiry;
       };
       forth = λ n r there fresh.
-          let (k, q, here, visible, of) = cloned m.weighs m.eq laws m.says is_key_clone is_value_clone keys_equal saved put items first start second like.made_again now late_saved late_put n r there (rw like.roomy.bound fresh, rw like.roomy.predicates tt) in
-          (k, q, here, record { key = of.key; value = values_equal r.value q.value of.value; written = of.written; read = of.read; expires = of.expires });
+          let (k, q, here, visible, of) = cloned m.weighs m.eq laws m.says is_key_clone is_value_clone saved put items first start second like.made_again now late_saved late_put n r there (rw like.roomy.bound fresh, rw like.roomy.predicates tt) in
+          (k, q, here, record { key = keys_equal r.key q.key of.key; value = values_equal r.value q.value of.value; written = of.written; read = of.read; expires = of.expires });
       back = λ k q there fresh.
-          let (n, r, here, visible, of) = clone_from m.weighs m.eq laws m.says is_key_clone is_value_clone keys_equal saved put items first start second like.made_again now late_saved late_put k q there (rw (like.made_again.hides.bound, like.made_again.roomy.bound) fresh, rw (like.made_again.hides.predicates like.made_again.roomy.predicates) tt) in
-          (n, r, here, record { key = sym of.key; value = sym (values_equal r.value q.value of.value); written = sym of.written; read = sym of.read; expires = sym of.expires });
+          let (n, r, here, visible, of) = clone_from m.weighs m.eq laws m.says is_key_clone is_value_clone saved put items first start second like.made_again now late_saved late_put k q there (rw (like.made_again.hides.bound, like.made_again.roomy.bound) fresh, rw (like.made_again.hides.predicates like.made_again.roomy.predicates) tt) in
+          (n, r, here, record { key = sym (keys_equal r.key q.key of.key); value = sym (values_equal r.value q.value of.value); written = sym of.written; read = sym of.read; expires = sym of.expires });
       first = record { roomy = like.roomy; timely = timely_later saved now first late_saved like.written };
       second = record { roomy = (like.lasts [] (subst (λ xs. IsRoomyFor m.weighs xs start) (sym (append-nil items)) like.made_again.roomy)).1; timely = timely };
       valid = valid;
@@ -272,7 +272,7 @@ module _ {K V X L P W C : Type 0} (m : Meaning K V X L P W C (Unit {0})) (laws :
         timely_in : IsTimely saved first → IsTimely now second
         timely_in (inl none) = inl (ap (λ (x : Settings X W). x.expiry) like.made_again.hides.settings ∙ like.expiry ∙ none)
         timely_in (inr early) = inr (λ k q there.
-            let (n, r, here, same) = written_in_first m.weighs m.eq laws m.says is_key_clone is_value_clone keys_equal saved put items first start second like.made_again now late_saved late_put k q there in
+            let (n, r, here, same) = written_in_first m.weighs m.eq laws m.says is_key_clone is_value_clone saved put items first start second like.made_again now late_saved late_put k q there in
             let before = early n r here in
             subst (λ (x : Instant). x.0 ≤ now) (sym same) (omega (arith, before, late_saved)))
 

@@ -9,7 +9,6 @@ use Rattle.std.proofs.lemmas.Option.{same_Some}
 use Rattle.moka_records.specs.declared.records.Member.{Member}
 use Rattle.moka_records.specs.declared.records.Operation.TheVariants.{Upsert}
 use Rattle.moka_records.specs.declared.records.Record.{Record}
-use Rattle.moka_parts.specs.Copies.{ClonesAreEqual}
 use Rattle.moka_parts.specs.Exact.{weight_of_records}
 use Rattle.moka_records.specs.Records.{counted_of, is_member, numbers_of}
 use Rattle.moka_parts.specs.Settling.{IsValid}
@@ -26,7 +25,7 @@ use Rattle.moka_engine.specs.parts.Restored.{Restored}
 use Rattle.moka_engine.specs.Snapshots.{Seen, IsListed, scene_of}
 use Rattle.moka_cache.specs.Saved.{AreAsWeighed, AreSaved, IsOfItem, IsSaved, IsRestored, HasRoomFor, has_expired}
 use Rattle.moka_cache.proofs.Membership.{none_waits}
-use Rattle.moka_restore_laws.specs.Again.{IsMadeAgain, AnswerAlike, MadeAgainAnswersAlike, EmptyHasRoom}
+use Rattle.moka_restore_laws.specs.Again.{IsMadeAgain, AnswerAlike, ClonesAreSameKeys, MadeAgainAnswersAlike, EmptyHasRoom}
 use Rattle.moka_restore_laws.proofs.Answering.{answers_alike}
 
 -- ---- what has not expired had not expired before
@@ -35,23 +34,23 @@ pub not_passed_before : (o : Option ℕ) (t u : ℕ) → t ≤ u → has_passed 
 not_passed_before None t u le none = refl
 not_passed_before (Some d) t u le none = grind arith
 
--- the second record has the key, a clone of the value, the moments and the expiry of the first
-pub record IsCloneOf {K V : Type 0} (is_value_clone : V → V → Type 0) (r q : Record K V) : Type 0 where
-  pub key : q.key ≡ r.key
+-- the second record has clones of the key and the value of the first, its moments and its expiry
+pub record IsCloneOf {K V : Type 0} (is_key_clone : K → K → Type 0) (is_value_clone : V → V → Type 0) (r q : Record K V) : Type 0 where
+  pub key : is_key_clone r.key q.key
   pub value : is_value_clone r.value q.value
   pub written : q.written ≡ r.written
   pub read : q.read ≡ r.read
   pub expires : q.expires ≡ r.expires
 
 -- the entry was saved of the record
-record IsSavedOf {K V : Type 0} (is_value_clone : V → V → Type 0) (r : Record K V) (item : Restored K V) : Type 0 where
-  key : item.key ≡ r.key
+record IsSavedOf {K V : Type 0} (is_key_clone : K → K → Type 0) (is_value_clone : V → V → Type 0) (r : Record K V) (item : Restored K V) : Type 0 where
+  key : is_key_clone r.key item.key
   value : is_value_clone r.value item.value
   written : item.last_modified ≡ r.written
   read : item.last_accessed ≡ r.read
   expires : item.expires ≡ r.expires
 
-module _ {K V X P W : Type 0} (weighs : W → K → V → ℕ → Type 0) (eq : K → K → Bool) (laws : IsEquivalence eq) (says : P → K → V → Bool → Type 0) (is_key_clone : K → K → Type 0) (is_value_clone : V → V → Type 0) (equal : ClonesAreEqual is_key_clone) where
+module _ {K V X P W : Type 0} (weighs : W → K → V → ℕ → Type 0) (eq : K → K → Bool) (laws : IsEquivalence eq) (says : P → K → V → Bool → Type 0) (is_key_clone : K → K → Type 0) (is_value_clone : V → V → Type 0) where
   pub visible_before : (s : State K V X P W) (r : Record K V) (t u : ℕ) → t ≤ u → IsVisible says s r u → IsVisible says s r t
   visible_before s r t u le visible =
       let none = none_of_five (is_expired r u) (is_past_live s.settings r u) (is_past_idle s.settings r u) (is_written_before s.invalid_before r) (is_read_before s.invalid_before r) visible.0 in (
@@ -60,7 +59,7 @@ module _ {K V X P W : Type 0} (weighs : W → K → V → ℕ → Type 0) (eq : 
       )
 
   -- it has not expired at a moment at which the record is visible
-  unexpired : (first second : State K V X P W) (r : Record K V) (item : Restored K V) (t u : ℕ) → t ≤ u → second.settings.time_to_live ≡ first.settings.time_to_live → second.settings.time_to_idle ≡ first.settings.time_to_idle → IsSavedOf is_value_clone r item → IsVisible says first r u → has_expired second.settings t item ≡ false
+  unexpired : (first second : State K V X P W) (r : Record K V) (item : Restored K V) (t u : ℕ) → t ≤ u → second.settings.time_to_live ≡ first.settings.time_to_live → second.settings.time_to_idle ≡ first.settings.time_to_idle → IsSavedOf is_key_clone is_value_clone r item → IsVisible says first r u → has_expired second.settings t item ≡ false
   unexpired first second r item t u le live idle of visible =
       let none = none_of_five (is_expired r u) (is_past_live first.settings r u) (is_past_idle first.settings r u) (is_written_before first.invalid_before r) (is_read_before first.invalid_before r) visible.0 in
       rw (live, idle, of.written, of.read, of.expires, not_passed_before (moment_of r.expires) t u le none.0, not_passed_before (deadline first.settings.time_to_live r.written.0) t u le none.1, not_passed_before (deadline first.settings.time_to_idle r.read.0) t u le none.2) refl
@@ -69,9 +68,9 @@ module _ {K V X P W : Type 0} (weighs : W → K → V → ℕ → Type 0) (eq : 
     abbrev Saved : List Member → List (Restored K V) → Type 0
     Saved members items = AreSaved says is_key_clone is_value_clone (scene_of first saved) members items
 
-    saved_of : (a : Member) (seen : Seen K V) (item : Restored K V) → (listed : IsListed says (scene_of first saved) a seen) → IsSaved is_key_clone is_value_clone seen item → IsSavedOf is_value_clone listed.kept item
+    saved_of : (a : Member) (seen : Seen K V) (item : Restored K V) → (listed : IsListed says (scene_of first saved) a seen) → IsSaved is_key_clone is_value_clone seen item → IsSavedOf is_key_clone is_value_clone listed.kept item
     saved_of a seen item listed is = record {
-      key = equal seen.key item.key is.key ∙ ap (λ (x : Seen K V). x.key) listed.same;
+      key = subst (λ (x : Seen K V). is_key_clone x.key item.key) listed.same is.key;
       value = subst (λ (x : Seen K V). is_value_clone x.value item.value) listed.same is.value;
       written = is.written ∙ ap (λ (x : Seen K V). x.written) listed.same;
       read = is.read ∙ ap (λ (x : Seen K V). x.read) listed.same;
@@ -79,31 +78,31 @@ module _ {K V X P W : Type 0} (weighs : W → K → V → ℕ → Type 0) (eq : 
     }
 
     -- a visible record of a member has its entry
-    item_of : (n : ℕ) (r : Record K V) → get first.records n ≡ Some r → IsVisible says first r saved → (members : List Member) (items : List (Restored K V)) → is_member n members ≡ true → Saved members items → (item : Restored K V) × Contains items item × IsSavedOf is_value_clone r item
+    item_of : (n : ℕ) (r : Record K V) → get first.records n ≡ Some r → IsVisible says first r saved → (members : List Member) (items : List (Restored K V)) → is_member n members ≡ true → Saved members items → (item : Restored K V) × Contains items item × IsSavedOf is_key_clone is_value_clone r item
     item_of n r there visible [] items member all = absurd (true≢false (sym member))
     item_of n r there visible (a ∷ members) items member all = go (item_of n r there visible members) (a.number == n) refl all
       where
         later : (a.number == n) ≡ false → is_member n members ≡ true
         later other = rw other at member
 
-        go : ((rest : List (Restored K V)) → is_member n members ≡ true → Saved members rest → (item : Restored K V) × Contains rest item × IsSavedOf is_value_clone r item) → (b : Bool) → (a.number == n) ≡ b → Saved (a ∷ members) items → (item : Restored K V) × Contains items item × IsSavedOf is_value_clone r item
+        go : ((rest : List (Restored K V)) → is_member n members ≡ true → Saved members rest → (item : Restored K V) × Contains rest item × IsSavedOf is_key_clone is_value_clone r item) → (b : Bool) → (a.number == n) ≡ b → Saved (a ∷ members) items → (item : Restored K V) × Contains items item × IsSavedOf is_key_clone is_value_clone r item
         go next true same (inl (passed, rest)) = absurd (not_both says first r saved (passed r (ap (get first.records) (same_by_test a.number n same) ∙ there)) visible)
         go next true same (inr (seen, item, rest, is, listed, saved_item, more)) =
             let one : listed.kept ≡ r = same_Some listed.kept r (sym listed.there ∙ ap (get first.records) (same_by_test a.number n same) ∙ there) in
-            (item, subst (λ xs. Contains xs item) (sym is) (Contains-append_left (item ∷ []) rest item (Contains-push [] item)), subst (λ x. IsSavedOf is_value_clone x item) one (saved_of a seen item listed saved_item))
+            (item, subst (λ xs. Contains xs item) (sym is) (Contains-append_left (item ∷ []) rest item (Contains-push [] item)), subst (λ x. IsSavedOf is_key_clone is_value_clone x item) one (saved_of a seen item listed saved_item))
         go next false other (inl (passed, rest)) = next items (later other) rest
         go next false other (inr (seen, item, rest, is, listed, saved_item, more)) =
             let found = next rest (later other) more in
             (found.0, subst (λ xs. Contains xs found.0) (sym is) (Contains-append_right (item ∷ []) rest found.0 found.1), found.2)
 
     -- an entry was saved of a record that was visible
-    record_of : (members : List Member) (items : List (Restored K V)) (item : Restored K V) → Saved members items → Contains items item → (n : ℕ) × (r : Record K V) × (get first.records n ≡ Some r) × IsVisible says first r saved × IsSavedOf is_value_clone r item
+    record_of : (members : List Member) (items : List (Restored K V)) (item : Restored K V) → Saved members items → Contains items item → (n : ℕ) × (r : Record K V) × (get first.records n ≡ Some r) × IsVisible says first r saved × IsSavedOf is_key_clone is_value_clone r item
     record_of [] items item none inside = (let below : (subst (λ xs. Contains xs item) none inside).0 < 0 = (subst (λ xs. Contains xs item) none inside).1 in absurd (omega arith))
     record_of (a ∷ members) items item (inl (passed, rest)) inside = record_of members items item rest inside
     record_of (a ∷ members) items item (inr (seen, own, rest, is, listed, saved_item, more)) inside = elim (Contains-append_cases (own ∷ []) rest item (subst (λ xs. Contains xs item) is inside)) [
       | inl only ↦ elim (Contains-push_cases [] own item only) [
         | inl none ↦ let below : none.0 < 0 = none.1 in absurd (omega arith)
-        | inr e ↦ (a.number, listed.kept, listed.there, listed.shown, subst (IsSavedOf is_value_clone listed.kept) e (saved_of a seen own listed saved_item))
+        | inr e ↦ (a.number, listed.kept, listed.there, listed.shown, subst (IsSavedOf is_key_clone is_value_clone listed.kept) e (saved_of a seen own listed saved_item))
       ]
       | inr behind ↦ record_of members rest item more behind
     ]
@@ -115,14 +114,14 @@ module _ {K V X P W : Type 0} (weighs : W → K → V → ℕ → Type 0) (eq : 
     idle : second.settings.time_to_idle ≡ first.settings.time_to_idle
     idle = ap (λ (x : Settings X W). x.time_to_idle) d.hides.settings ∙ d.time_to_idle
 
-    alike : (r q : Record K V) (item : Restored K V) → IsSavedOf is_value_clone r item → IsOfItem item q → IsVisible says first r saved → (IsVisible says first r now → IsVisible says second q now) × (IsVisible says second q now → IsVisible says first r now)
+    alike : (r q : Record K V) (item : Restored K V) → IsSavedOf is_key_clone is_value_clone r item → IsOfItem item q → IsVisible says first r saved → (IsVisible says first r now → IsVisible says second q now) × (IsVisible says second q now → IsVisible says first r now)
     alike r q item of put_back visible =
         answers_alike X W says first second r q saved now live idle (d.hides.bound ∙ d.roomy.bound) (d.hides.predicates d.roomy.predicates)
         (put_back.written_is ∙ of.written) (put_back.read_is ∙ of.read) (put_back.expires_is ∙ of.expires) visible
 
-    clone_of : (r q : Record K V) (item : Restored K V) → IsSavedOf is_value_clone r item → IsOfItem item q → IsCloneOf is_value_clone r q
+    clone_of : (r q : Record K V) (item : Restored K V) → IsSavedOf is_key_clone is_value_clone r item → IsOfItem item q → IsCloneOf is_key_clone is_value_clone r q
     clone_of r q item of put_back = record {
-      key = put_back.key_is ∙ of.key;
+      key = subst (is_key_clone r.key) (sym put_back.key_is) of.key;
       value = subst (is_value_clone r.value) (sym put_back.value_is) of.value;
       written = put_back.written_is ∙ of.written;
       read = put_back.read_is ∙ of.read;
@@ -130,7 +129,7 @@ module _ {K V X P W : Type 0} (weighs : W → K → V → ℕ → Type 0) (eq : 
     }
 
     -- each visible record of the first has its clone in the second
-    pub cloned : (n : ℕ) (r : Record K V) → get first.records n ≡ Some r → IsVisible says first r now → (k : ℕ) × (q : Record K V) × (get second.records k ≡ Some q) × IsVisible says second q now × IsCloneOf is_value_clone r q
+    pub cloned : (n : ℕ) (r : Record K V) → get first.records n ≡ Some r → IsVisible says first r now → (k : ℕ) × (q : Record K V) × (get second.records k ≡ Some q) × IsVisible says second q now × IsCloneOf is_key_clone is_value_clone r q
     cloned n r there visible =
         let seen = visible_before first r saved now late_saved visible in
         let (item, inside, of) = item_of first saved n r there seen first.access items (d.all_saved n r there) d.items_saved in
@@ -139,7 +138,7 @@ module _ {K V X P W : Type 0} (weighs : W → K → V → ℕ → Type 0) (eq : 
         (place.0, restored.kept, place.1, (alike r restored.kept item of restored.of_item seen).0 visible, clone_of r restored.kept item of restored.of_item)
 
     -- and each of the second is the clone of one
-    pub clone_from : (k : ℕ) (q : Record K V) → get second.records k ≡ Some q → IsVisible says second q now → (n : ℕ) × (r : Record K V) × (get first.records n ≡ Some r) × IsVisible says first r now × IsCloneOf is_value_clone r q
+    pub clone_from : (k : ℕ) (q : Record K V) → get second.records k ≡ Some q → IsVisible says second q now → (n : ℕ) × (r : Record K V) × (get first.records n ≡ Some r) × IsVisible says first r now × IsCloneOf is_key_clone is_value_clone r q
     clone_from k q there visible = elim (d.adds k q there) [
       | inl (r, old, same) ↦ absurd (nothing_at k r (ap (λ records. get records k) (sym d.no_records) ∙ old))
       | inr (item, inside, put_back) ↦
@@ -154,21 +153,21 @@ module _ {K V X P W : Type 0} (weighs : W → K → V → ℕ → Type 0) (eq : 
       | inr (item, inside, put_back) ↦ let (n, r, here, seen, of) = record_of first saved first.access items item d.items_saved inside in (n, r, here, put_back.written_is ∙ of.written)
     ]
 
-  answer_alike : (saved put : ℕ) (items : List (Restored K V)) (first start second : State K V X P W) → IsValid eq first → IsValid eq second → IsMadeAgain weighs eq says is_key_clone is_value_clone saved put items first start second →
+  answer_alike : ClonesAreSameKeys eq is_key_clone → (saved put : ℕ) (items : List (Restored K V)) (first start second : State K V X P W) → IsValid eq first → IsValid eq second → IsMadeAgain weighs eq says is_key_clone is_value_clone saved put items first start second →
       (key : K) (now : ℕ) → saved ≤ now → put ≤ now → AnswerAlike eq says is_value_clone first second key now
-  answer_alike saved put items first start second valid_first valid_second d key now late_saved late_put = record {
+  answer_alike same saved put items first start second valid_first valid_second d key now late_saved late_put = record {
     forth = λ r seen.
         let at = record_of_key_found eq first.records key r seen.0 in
         let (k, q, there, visible, of) = cloned saved put items first start second d now late_saved late_put at.0 r at.1 seen.1 in
-        (q, (present_key eq second.records key laws valid_second.numbered.numbered.one_each k q there (ap (eq key) of.key ∙ at.2), visible), of.value);
+        (q, (present_key eq second.records key laws valid_second.numbered.numbered.one_each k q there (laws.congr key r.key q.key at.2 ∙ same r.key q.key of.key), visible), of.value);
     back = λ q seen.
         let at = record_of_key_found eq second.records key q seen.0 in
         let (n, r, there, visible, of) = clone_from saved put items first start second d now late_saved late_put at.0 q at.1 seen.1 in
-        (r, (present_key eq first.records key laws valid_first.numbered.numbered.one_each n r there (ap (eq key) (sym of.key) ∙ at.2), visible), of.value);
+        (r, (present_key eq first.records key laws valid_first.numbered.numbered.one_each n r there (laws.congr key q.key r.key at.2 ∙ laws.symm q.key r.key ∙ same r.key q.key of.key), visible), of.value);
   }
 
 pub made_again_answers_alike : {K V P W : Type 0} (X : Type 0) (weighs : W → K → V → ℕ → Type 0) (eq : K → K → Bool) → IsEquivalence eq → (says : P → K → V → Bool → Type 0) (is_key_clone : K → K → Type 0) (is_value_clone : V → V → Type 0) → MadeAgainAnswersAlike X weighs eq says is_key_clone is_value_clone
-made_again_answers_alike X weighs eq laws says is_key_clone is_value_clone equal = answer_alike {X = X} weighs eq laws says is_key_clone is_value_clone equal
+made_again_answers_alike X weighs eq laws says is_key_clone is_value_clone = answer_alike {X = X} weighs eq laws says is_key_clone is_value_clone
 
 -- ---- room in an empty cache
 

@@ -13,7 +13,7 @@ use Rattle.moka_restore_laws.proofs.MadeAgain.{IsCloneOf, not_passed_before}
 
 -- the second record is the first but for number, hash, weight and generations
 abbrev pub IsTwin : {K V : Type 0} → Record K V → Record K V → Type 0
-IsTwin {K} {V} r q = IsCloneOf (λ (a b : V). b ≡ a) r q
+IsTwin {K} {V} r q = IsCloneOf (λ (a b : K). b ≡ a) (λ (a b : V). b ≡ a) r q
 
 module _ {K V : Type 0} where
   pub turned : (r q : Record K V) → IsTwin r q → IsTwin q r

@@ -1,8 +1,7 @@
 -- A cache that is made again of what was saved of another.
-use Rattle.std.specs.Prelude.{◌≡◌, ℕ, ◌≤◌, Bool, false, List, [], Some, None, ◌↔◌}
+use Rattle.std.specs.Prelude.{◌≡◌, ℕ, ◌≤◌, Bool, true, false, List, [], Some, None, ◌↔◌}
 use Rattle.std.specs.FinMap.{empty}
 use Rattle.moka_records.specs.declared.records.Record.{Record}
-use Rattle.moka_parts.specs.Copies.{ClonesAreEqual}
 use Rattle.moka_records.specs.Records.{record_of_key}
 use Rattle.moka_parts.specs.Runs.{IsEmpty}
 use Rattle.moka_parts.specs.Settling.{IsValid}
@@ -53,10 +52,14 @@ pub record AnswerAlike {K V X P W : Type 0} (eq : K → K → Bool) (says : P �
   pub back : (q : Record K V) → IsSeen eq says second key now q → (r : Record K V) × IsSeen eq says first key now r
       × is_value_clone r.value q.value
 
+-- the clone of a key is the same key to the cache
+abbrev pub ClonesAreSameKeys : {K : Type 0} → (K → K → Bool) → (K → K → Type 0) → Type 0
+ClonesAreSameKeys {K} eq is_key_clone = (key clone : K) → is_key_clone key clone → eq key clone ≡ true
+
 -- a cache made again answers each look-up as the first does, at each moment that is before neither of the two
 abbrev pub MadeAgainAnswersAlike : {K V P W : Type 0} → (X : Type 0) → (W → K → V → ℕ → Type 0) → (K → K → Bool) →
     (P → K → V → Bool → Type 0) → (K → K → Type 0) → (V → V → Type 0) → Type 0
-MadeAgainAnswersAlike {K} {V} {P} {W} X weighs eq says is_key_clone is_value_clone = ClonesAreEqual is_key_clone →
+MadeAgainAnswersAlike {K} {V} {P} {W} X weighs eq says is_key_clone is_value_clone = ClonesAreSameKeys eq is_key_clone →
     (saved put : ℕ) (items : List (Restored K V)) (first start second : State K V X P W) → IsValid eq first →
     IsValid eq second → IsMadeAgain weighs eq says is_key_clone is_value_clone saved put items first start second →
     (key : K) (now : ℕ) → saved ≤ now → put ≤ now → AnswerAlike eq says is_value_clone first second key now

@@ -17,7 +17,7 @@ pub fn answers_as_before<K, V, X, P: PredicateFn<K, V>, W>()
 /// A cache made again of what `save` lists of another, put back by `restore` into an empty one with the same times and
 /// room for all, answers each look-up as the first does at the same moment, if neither saving nor putting back was
 /// later, until an entry of either is read or written: what one finds the other finds, with a clone of the value.
-/// Clones of keys have to be equal.
+/// Clones of keys have to be equal to them by `==`.
 pub fn made_again_answers_alike<
     K: Eq + Clone,
     V: Clone,

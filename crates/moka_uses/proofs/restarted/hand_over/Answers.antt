@@ -1,4 +1,5 @@
 use Rattle.std.proofs.Common.{◌≡◌, ◌==◌, false, None, Some, inl, sym, subst, ◌∙◌}
+use Rattle.std.proofs.lemmas.Bool.{eq-eqb}
 use Rattle.std.specs.Duration.{as_nanos}
 use Rattle.moka_restore_laws.specs.Again.{IsMadeAgain}
 use Rattle.moka_engine.specs.Settling.{IsValid}
@@ -35,7 +36,7 @@ returns-clause-handed_over g c =
         read_again,
         reads_again,
         (
-          λ idle live. c.made_again_answers_alike.ensures.alike (λ x y same. same) saved.0 put.0 c.in_ok-saved.saved.items first.state made.begun second.state valid valid_again (again idle live),
+          λ idle live. c.made_again_answers_alike.ensures.alike (λ x y same. eq-eqb x y (sym same)) saved.0 put.0 c.in_ok-saved.saved.items first.state made.begun second.state valid valid_again (again idle live),
           λ ends now after other_after calls others replies answers late_saved late_put alike in_time. c.look_ups_answer_alike.ensures.at_any_time (λ x y same. same) (λ x y same. same)
               saved.0 put.0 now c.in_ok-saved.saved.items first second after other_after made.begun tt tt tt tt calls others replies answers valid valid_again
               (record {
