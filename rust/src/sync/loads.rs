@@ -85,9 +85,8 @@ where
             if let Some((_, value)) = there
                 && !replaces(&value)
             {
-                let value = calls
-                    .make(|shard| shard.get_again(hash, |kept| *kept == **key))
-                    .unwrap_or(value);
+                // That counts as a read. What is there by now was not tested, so this is the value that is handed out.
+                drop(calls.make(|shard| shard.get_again(hash, |kept| *kept == **key)));
                 return Outcome::Made { value, is_fresh: false };
             }
             let mut load = Load {

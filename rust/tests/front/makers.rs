@@ -79,6 +79,25 @@ fn the_entry_of_one_who_waited_is_not_fresh() {
 }
 
 #[test]
+fn the_value_that_is_not_to_be_replaced_is_handed_out() {
+    let (cache, mut tests) = (Cache::<u32, _>::new(100), 0);
+    cache.insert(1, 'a');
+    // First before the maker's turn, and then in it: meanwhile another value comes.
+    let replaces = |_: &char| {
+        tests += 1;
+        if tests == 2 {
+            cache.insert(1, 'b');
+        }
+        tests == 1
+    };
+    let entry = cache
+        .entry(1)
+        .or_insert_with_if(|| unreachable!("a value that stays"), replaces);
+    assert_eq!((entry.is_fresh(), entry.into_value(), tests), (false, 'a', 2));
+    assert_eq!(cache.get(&1), Some('b'));
+}
+
+#[test]
 fn a_load_ends_after_what_came_for_its_key_meanwhile() {
     type Call = fn(&Cache<u32, u32>);
     let calls: [(&str, Call, u64); 5] = [
