@@ -1,23 +1,22 @@
 -- The entries that are visible: key after key, and from keys to records.
-use Rattle.std.proofs.Common.{◌≡◌, refl, ℕ, ◌<◌, Bool, T, cond, List, [], ◌∷◌, ◌++◌, map, length, set, get_or, swap, Option, Some, None, Ok, Err, ap, sym, subst, ◌∙◌, inl, inr, IsPermutation}
+use Rattle.std.proofs.Common.{◌≡◌, refl, ℕ, ◌<◌, Bool, T, true, cond, List, [], ◌∷◌, ◌++◌, map, length, set, get_or, swap, Option, Some, None, Ok, Err, ap, sym, subst, ◌∙◌, inl, inr, IsPermutation}
 use Rattle.std.specs.List.{AllZip, AllByRecursion}
 use Rattle.std.specs.Cmp.{IsEquivalence, nat_cmp_total, eq_by_cmp_equiv}
 use Rattle.std.specs.Ordering.{nat_cmp, eq_by_cmp}
 use Rattle.std.specs.FinMap.{values, entries, entries_sorted, get-entries, is_sorted}
 use Rattle.std.specs.FinMap as finite
 use Rattle.std.proofs.lemmas.List.{length-map, map-set, get_or-map}
-use Rattle.std.proofs.lemmas.List.Elements.{same_from_all_zip}
 use Rattle.std.proofs.lemmas.List.Sorted.{IsPermutation-keeps, IsPermutation-refl, IsPermutation-trans, IsPermutation-sym, Contains-permutation}
 use Rattle.moka_records.specs.declared.records.Record.{Record}
 use Rattle.moka_parts.specs.Calls.{KeysStep, ScanStep, ScansAt}
-use Rattle.moka_parts.specs.Copies.{HandsOut, IsCopy, ClonesAreEqual}
+use Rattle.moka_parts.specs.Copies.{HandsOut, IsCopy}
 use Rattle.moka_records.specs.Records.{record_of_key}
 use Rattle.moka_parts.specs.Settling.{IsValid}
 use Rattle.moka_parts.specs.State.{State}
 use Rattle.moka_records.proofs.Lookup.{found_behind, left_part, right_part, present_key}
 use Rattle.moka_laws.proofs.OrderKept.{of_each}
 use Rattle.moka_laws.proofs.Tickets.{all_of}
-use Rattle.moka_cache.specs.Visible.{AreShown, ListsVisible, LooksUp, LooksUpClones}
+use Rattle.moka_cache.specs.Visible.{AreShown, ClonesAreSameKeys, ListsVisible, LooksUp, LooksUpClones}
 
 -- ---- key after key
 
@@ -80,28 +79,30 @@ all_values {A} P (e ∷ es) sorted given = (
     finite_case b = cond b (Some e.1) (finite.find nat_cmp e.0 es)
 
 module _ {K V X P W : Type 0} (says : P → K → V → Bool → Type 0) (is_value_clone : V → V → Type 0) (s : State K V X P W) (now : ℕ) (eq : K → K → Bool) where
-  -- the record is the one that a look-up of its key finds
-  abbrev IsOfItsKey : Record K V → Type 0
-  IsOfItsKey r = record_of_key eq s.records r.key ≡ Some r
+  -- the record is the one that a look-up of any key that is equal to its own finds
+  abbrev IsFoundByEach : Record K V → Type 0
+  IsFoundByEach r = (key : K) → eq r.key key ≡ true → record_of_key eq s.records key ≡ Some r
 
-  all_found : IsEquivalence eq → IsValid eq s → AllByRecursion IsOfItsKey (values s.records)
-  all_found laws valid = all_values IsOfItsKey (entries s.records) (entries_sorted s.records) (λ n r there.
-      present_key eq s.records r.key laws valid.numbered.numbered.one_each n r (get-entries s.records n ∙ there) (laws.refl r.key))
+  all_found : IsEquivalence eq → IsValid eq s → AllByRecursion IsFoundByEach (values s.records)
+  all_found laws valid = all_values IsFoundByEach (entries s.records) (entries_sorted s.records) (λ n r there key same.
+      present_key eq s.records key laws valid.numbered.numbered.one_each n r (get-entries s.records n ∙ there) (laws.symm key r.key ∙ same))
 
-  shown_by_keys : (rs : List (Record K V)) (found : List (K × V)) → AllByRecursion IsOfItsKey rs → LooksUp says is_value_clone s now eq (map (λ (r : Record K V). r.key) rs) found → AreShown says is_value_clone s now rs found
-  shown_by_keys [] found all h = h
-  shown_by_keys (r ∷ rs) found all (inl (step, rest)) = inl (subst (λ o. ScansAt says s o now (Ok None)) all.0 step, shown_by_keys rs found all.1 rest)
-  shown_by_keys (r ∷ rs) found all (inr (own, copy, rest, step, cloned, is, more)) =
-      let seen = subst (λ o. ScansAt says s o now (Ok (Some own))) all.0 step in
-      inr (copy, rest, seen.0, subst (λ v. is_value_clone v copy) seen.1 cloned, is, shown_by_keys rs rest all.1 more)
+  module _ (is_key_clone : K → K → Type 0) (same : ClonesAreSameKeys eq is_key_clone) where
+    shown_by_keys : (rs : List (Record K V)) (keys : List K) (found : List (K × V)) → AllByRecursion IsFoundByEach rs → AllZip is_key_clone (map (λ (r : Record K V). r.key) rs) keys → LooksUp says is_value_clone s now eq keys found → AreShown says is_value_clone s now is_key_clone rs found
+    shown_by_keys [] [] found all cloned h = h
+    shown_by_keys [] (key ∷ keys) found all cloned h = absurd cloned
+    shown_by_keys (r ∷ rs) [] found all cloned h = absurd cloned
+    shown_by_keys (r ∷ rs) (key ∷ keys) found all cloned (inl (step, rest)) = inl (subst (λ o. ScansAt says s o now (Ok None)) (all.0 key (same r.key key cloned.0)) step, shown_by_keys rs keys found all.1 cloned.1 rest)
+    shown_by_keys (r ∷ rs) (key ∷ keys) found all cloned (inr (own, copy, rest, step, copied, is, more)) =
+        let seen = subst (λ o. ScansAt says s o now (Ok (Some own))) (all.0 key (same r.key key cloned.0)) step in
+        inr (key, copy, rest, seen.0, cloned.0, subst (λ v. is_value_clone v copy) seen.1 copied, is, shown_by_keys rs keys rest all.1 cloned.1 more)
 
-  -- where clones of keys equal them, look-ups of clones of all keys find just the visible entries
-  pub lists_visible : (is_key_clone : K → K → Type 0) → IsEquivalence eq → IsValid eq s → ClonesAreEqual is_key_clone → (found : List (K × V)) → LooksUpClones says is_value_clone s now eq is_key_clone found → ListsVisible says is_value_clone s now found
-  lists_visible is_key_clone laws valid equal found (own, copies, order, cloned, looks) =
+  -- where clones of keys are equal to them, look-ups of clones of all keys find just the visible entries
+  pub lists_visible : (is_key_clone : K → K → Type 0) → IsEquivalence eq → IsValid eq s → ClonesAreSameKeys eq is_key_clone → (found : List (K × V)) → LooksUpClones says is_value_clone s now eq is_key_clone found → ListsVisible says is_value_clone s now is_key_clone found
+  lists_visible is_key_clone laws valid same found (own, copies, order, cloned, looks) =
       let below = permuted_below (λ (r : Record K V). r.key) (values s.records) own order in
-      let all : AllByRecursion IsOfItsKey below.0 = all_of IsOfItsKey below.0 (λ r inside. of_each IsOfItsKey (values s.records) (all_found laws valid) r (Contains-permutation below.0 (values s.records) r (IsPermutation-sym _ _ below.1) inside)) in
-      let keys = subst (λ ks. LooksUp says is_value_clone s now eq ks found) (same_from_all_zip is_key_clone own copies cloned equal ∙ sym below.2) looks in
-      (below.0, below.1, shown_by_keys below.0 found all keys)
+      let all : AllByRecursion IsFoundByEach below.0 = all_of IsFoundByEach below.0 (λ r inside. of_each IsFoundByEach (values s.records) (all_found laws valid) r (Contains-permutation below.0 (values s.records) r (IsPermutation-sym _ _ below.1) inside)) in
+      (below.0, below.1, shown_by_keys is_key_clone same below.0 copies found all (subst (λ ks. AllZip is_key_clone ks copies) (sym below.2) cloned) looks)
 
   -- the keys that the engine tells are clones of all keys
   pub looks_up_clones : (is_key_clone : K → K → Type 0) (keys : List K) (found : List (K × V)) → ((own : Option (List K)) × KeysStep s 0 (Ok own) × IsCopy (AllZip is_key_clone) own (Some keys)) → LooksUp says is_value_clone s now eq keys found → LooksUpClones says is_value_clone s now eq is_key_clone found

@@ -1,9 +1,8 @@
 //! The entries that are visible. moka: `sync::iter`.
 ghost use Rattle.std.specs.Prelude.{IfOk};
 ghost use Rattle.std.specs.Vec.Iter.{into_iter_items};
-ghost use Rattle.moka_parts.specs.Copies.{ClonesAreEqual};
 ghost use Rattle.moka_records.specs.declared.instant.Instant.{Instant};
-ghost use Rattle.moka_cache.specs.Visible.{ListsVisible, LooksUp, LooksUpClones};
+ghost use Rattle.moka_cache.specs.Visible.{ClonesAreSameKeys, ListsVisible, LooksUp, LooksUpClones};
 
 use crate::cache::Cache;
 use moka_engine::base_cache::BaseCache;
@@ -40,8 +39,8 @@ impl<
         V: Clone + Drop,
         ensures looked_up { IfOk result (λ found.
             LooksUpClones P.says V.is_clone self.now.engine.state now.0 K.eq K.is_clone (into_iter_items found)) }
-        ensures visible { ClonesAreEqual K.is_clone → IfOk result (λ found.
-            ListsVisible P.says V.is_clone self.now.engine.state now.0 (into_iter_items found)) }
+        ensures visible { ClonesAreSameKeys K.eq K.is_clone → IfOk result (λ found.
+            ListsVisible P.says V.is_clone self.now.engine.state now.0 K.is_clone (into_iter_items found)) }
     {
         self.engine().invariant_holds();
         match self.engine().keys(0)? {

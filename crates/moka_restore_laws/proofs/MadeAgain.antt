@@ -25,7 +25,8 @@ use Rattle.moka_engine.specs.parts.Restored.{Restored}
 use Rattle.moka_engine.specs.Snapshots.{Seen, IsListed, scene_of}
 use Rattle.moka_cache.specs.Saved.{AreAsWeighed, AreSaved, IsOfItem, IsSaved, IsRestored, HasRoomFor, has_expired}
 use Rattle.moka_cache.proofs.Membership.{none_waits}
-use Rattle.moka_restore_laws.specs.Again.{IsMadeAgain, AnswerAlike, ClonesAreSameKeys, MadeAgainAnswersAlike, EmptyHasRoom}
+use Rattle.moka_cache.specs.Visible.{ClonesAreSameKeys}
+use Rattle.moka_restore_laws.specs.Again.{IsMadeAgain, AnswerAlike, MadeAgainAnswersAlike, EmptyHasRoom}
 use Rattle.moka_restore_laws.proofs.Answering.{answers_alike}
 
 -- ---- what has not expired had not expired before

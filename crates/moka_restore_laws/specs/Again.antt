@@ -1,5 +1,5 @@
 -- A cache that is made again of what was saved of another.
-use Rattle.std.specs.Prelude.{◌≡◌, ℕ, ◌≤◌, Bool, true, false, List, [], Some, None, ◌↔◌}
+use Rattle.std.specs.Prelude.{◌≡◌, ℕ, ◌≤◌, Bool, false, List, [], Some, None, ◌↔◌}
 use Rattle.std.specs.FinMap.{empty}
 use Rattle.moka_records.specs.declared.records.Record.{Record}
 use Rattle.moka_records.specs.Records.{record_of_key}
@@ -11,6 +11,7 @@ use Rattle.moka_engine.specs.parts.Restored.{Restored}
 use Rattle.moka_engine.specs.Snapshots.{scene_of}
 use Rattle.moka_cache.specs.Saved.{AddsOnly, AreSaved, AreThere, HasOnlyMembers, IsRoomyFor, WeighAtMost}
 use Rattle.moka_cache.specs.Unsent.{HidesNoMore}
+use Rattle.moka_cache.specs.Visible.{ClonesAreSameKeys}
 
 -- a record that was visible at one moment, and one with the same value, moments and expiry in a cache with the same
 -- times and no invalidation: whenever one is visible the other is
@@ -51,10 +52,6 @@ pub record AnswerAlike {K V X P W : Type 0} (eq : K → K → Bool) (says : P �
       × is_value_clone r.value q.value
   pub back : (q : Record K V) → IsSeen eq says second key now q → (r : Record K V) × IsSeen eq says first key now r
       × is_value_clone r.value q.value
-
--- the clone of a key is the same key to the cache
-abbrev pub ClonesAreSameKeys : {K : Type 0} → (K → K → Bool) → (K → K → Type 0) → Type 0
-ClonesAreSameKeys {K} eq is_key_clone = (key clone : K) → is_key_clone key clone → eq key clone ≡ true
 
 -- a cache made again answers each look-up as the first does, at each moment that is before neither of the two
 abbrev pub MadeAgainAnswersAlike : {K V P W : Type 0} → (X : Type 0) → (W → K → V → ℕ → Type 0) → (K → K → Bool) →

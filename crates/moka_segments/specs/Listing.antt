@@ -1,8 +1,7 @@
 -- What all segments list.
 use Rattle.std.specs.Prelude.{◌≡◌, ℕ, Bool, List, [], ◌∷◌, ◌++◌}
-use Rattle.moka_parts.specs.Copies.{ClonesAreEqual}
 use Rattle.moka_calls.specs.Synchronous.{Synchronous}
-use Rattle.moka_cache.specs.Visible.{ListsVisible, LooksUpClones}
+use Rattle.moka_cache.specs.Visible.{ClonesAreSameKeys, ListsVisible, LooksUpClones}
 
 -- a list of each element, one after the other
 abbrev pub AllListed : {A B : Type 0} → (A → List B → Type 0) → List A → List B → Type 0
@@ -16,5 +15,6 @@ module _ {K V S X L P W : Type 0} (says : P → K → V → Bool → Type 0) (is
   pub record ListsOwn (s : Synchronous K V S X L P W) (found : List (K × V)) : Type 0 where
     -- clones of the keys of all records, each looked up
     pub looked_up : LooksUpClones says is_value_clone s.engine.state now eq is_key_clone found
-    -- if a clone of a key equals it, exactly the visible entries, each once
-    pub visible : ClonesAreEqual is_key_clone → ListsVisible says is_value_clone s.engine.state now found
+    -- if a clone of a key is equal to it, exactly the visible entries, each once
+    pub visible : ClonesAreSameKeys eq is_key_clone
+        → ListsVisible says is_value_clone s.engine.state now is_key_clone found

@@ -1,9 +1,8 @@
 //! The entries that are visible. moka: `sync::iter`.
 ghost use Rattle.std.specs.Prelude.{◌≡◌, IfOk};
 ghost use Rattle.std.specs.Vec.Iter.{into_iter_items};
-ghost use Rattle.moka_parts.specs.Copies.{ClonesAreEqual};
 ghost use Rattle.moka_timed.specs.Moments.{AtItsOnlyMoment};
-ghost use Rattle.moka_cache.specs.Visible.{ListsVisible, LooksUpClones};
+ghost use Rattle.moka_cache.specs.Visible.{ClonesAreSameKeys, ListsVisible, LooksUpClones};
 
 use crate::cache::TimedCache;
 use moka_parts::closures::{PredicateFn, Weigher};
@@ -35,8 +34,8 @@ impl<
         ensures listed { AtItsOnlyMoment C.reads self.old self.new (λ now old new.
             IfOk result (λ found.
             LooksUpClones P.says V.is_clone old.engine.state now.0 K.eq K.is_clone (into_iter_items found))
-            × (ClonesAreEqual K.is_clone → IfOk result (λ found.
-            ListsVisible P.says V.is_clone old.engine.state now.0 (into_iter_items found)))) }
+            × (ClonesAreSameKeys K.eq K.is_clone → IfOk result (λ found.
+            ListsVisible P.says V.is_clone old.engine.state now.0 K.is_clone (into_iter_items found)))) }
         ensures unchanged { self.new.cache ≡ self.old.cache }
     {
         let now = self.clock.now();
