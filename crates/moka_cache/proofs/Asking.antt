@@ -1,6 +1,6 @@
 -- What inserts, gets and removals make, from the engine's steps.
 use Rattle.std.proofs.Common.{◌≡◌, refl, ℕ, Bool, true, false, List, [], ◌∷◌, Option, Some, None, is_some, Result, Ok, Err, IfOk, OnErr, ap, sym, subst, ◌∙◌, inl, inr, MatchBool, true≢false}
-use Rattle.std.specs.Prelude.{IfSome}
+use Rattle.std.specs.Prelude.{IfSome, IsOk}
 use Rattle.moka_parts.specs.declared.notification.RemovalCause.{RemovalCause}
 use Rattle.moka_records.specs.declared.instant.Instant.{Instant}
 use Rattle.moka_records.specs.declared.records.Record.{Record}
@@ -22,9 +22,10 @@ use Rattle.moka_parts.specs.Copies.{IsCopiedAnswer, IsEntryCopy, IsKvEntryCopy, 
 use Rattle.moka_parts.specs.Visibility.{IsShown, IsVisible}
 use Rattle.moka_parts.specs.Runs.{Engine, Befalls}
 use Rattle.moka_parts.specs.Listed.{ListedRun}
+use Rattle.moka_engine.specs.Looks.{CanHandOut, CanHandOutValue}
 use Rattle.moka_laws.proofs.Contained.{not_both}
 use Rattle.moka_calls.specs.Given.{Sees}
-use Rattle.moka_calls.specs.Synchronous.{Made, Makes, Posts, InsertsEntry, GetsValue, RemovesEntry, value_found, hears_clones}
+use Rattle.moka_calls.specs.Synchronous.{Made, Makes, Posts, InsertsEntry, GetsValue, RemovesEntry, invalidated, removed, value_found, hears_clones}
 use Rattle.moka_laws.proofs.Alike.{get_alike, listed_run_alike}
 use Rattle.moka_laws.proofs.Quiet.{befalls_then, befalls-nothing, removal_keeps, unheard}
 use Rattle.moka_calls.proofs.Made.{made_one, made_then, made_more, befalls_more}
@@ -72,6 +73,16 @@ module _ {K V : Type 0} (is_key_clone : K → K → Type 0) (is_value_clone : V 
   value_copied (Ok (Some x)) (Ok (Some y)) copied = copied.value
   value_copied (Ok (Some x)) (Ok None) copied = absurd copied
   value_copied (Ok (Some x)) (Err e) copied = absurd copied
+
+-- if an entry is handed out, so is its value
+pub value_granted : {K V : Type 0} (a : Result (Option (Entry K V)) OutOfMemory) → IsOk a → IsOk (value_found a)
+value_granted (Ok None) granted = refl
+value_granted (Ok (Some x)) granted = refl
+value_granted (Err e) granted = granted
+
+-- where no key is asked for, only the clone of the value counts
+pub value_alone : {K V : Type 0} (is_key_infallible : K → Type 0) (is_infallible : V → Type 0) (sought : Option (Record K V)) → CanHandOutValue is_infallible sought → CanHandOut is_key_infallible is_infallible false sought
+value_alone is_key_infallible is_infallible sought granted r there = (granted r there, λ asked. absurd (true≢false (sym asked)))
 
 module _ {K V X P W : Type 0} (eq : K → K → Bool) (says : P → K → V → Bool → Type 0) (is_clone : V → V → Type 0) (s : State K V X P W) (key : K) (now : ℕ) where
   -- what is seen is a clone of the value of the key's record
@@ -154,6 +165,17 @@ module _ {K V S X L P W C : Type 0} (m : Meaning K V X L P W C (Unit {0})) (key 
       (call.Get key hash false now ∷ [], reply.Get a ∷ [], (a, refl, refl, refl), made_one m old new clock clock_after (call.Get key hash false now) (reply.Get a) e step befell read alike.1 tt)
 
 -- ---- removals
+
+-- what was told is answered as well
+pub removed_told : {V : Type 0} (taken : Option (V × Result (Unit {0}) OutOfMemory)) → IfSome taken (λ t. IsOk t.1) → IsOk (removed taken)
+removed_told None told = refl
+removed_told (Some (value, Ok _)) told = refl
+removed_told (Some (value, Err _)) told = told
+
+pub invalidated_told : {V : Type 0} (taken : Option (V × Result (Unit {0}) OutOfMemory)) → IfSome taken (λ t. IsOk t.1) → IsOk (invalidated taken)
+invalidated_told None told = refl
+invalidated_told (Some (value, Ok _)) told = refl
+invalidated_told (Some (value, Err _)) told = told
 
 module _ {K V L : Type 0} (is_key_clone : K → K → Type 0) (is_value_clone : V → V → Type 0) (tells : L → K → V → RemovalCause → L → Type 0) where
   -- the notice of an entry, if one is told, and what the listener heard of it

@@ -1,5 +1,5 @@
 -- What calls that compute a value make, from a look-up and what follows it.
-use Rattle.std.proofs.Common.{◌≡◌, refl, ℕ, Bool, true, false, List, ◌++◌, Option, Some, None, option_map, Result, Ok, Err, IfOk, is_some, ap, sym, subst, ◌∙◌, inl}
+use Rattle.std.proofs.Common.{◌≡◌, refl, ℕ, Bool, true, false, List, ◌++◌, Option, Some, None, option_map, Result, Ok, Err, IfErr, IfOk, is_some, ap, sym, subst, ◌∙◌, inl}
 use Rattle.std.specs.Prelude.{IfSome}
 use Rattle.std.proofs.lemmas.Option.{none-some, same_Some}
 use Rattle.moka_records.specs.declared.instant.Instant.{Instant}
@@ -17,9 +17,12 @@ use Rattle.moka_calls.specs.declared.error.GetWithRefused.TheVariants.{Insert}
 use Rattle.moka_calls.specs.Synchronous.{Makes, hears_clones, InsertsMade, GetsValue, RemovesEntry, HandsOutOwn}
 use Rattle.moka_calls.specs.Entries.{entry_value, IsFresh}
 use Rattle.moka_calls.specs.Given.{Sees}
+use Rattle.moka_calls.specs.declared.compute.CompResult.{CompResult}
+use Rattle.moka_calls.specs.declared.compute.ComputeRefused.{ComputeRefused}
 use Rattle.moka_calls.specs.declared.compute.CompResult.TheVariants.{Inserted, ReplacedWith}
 use Rattle.moka_calls.specs.declared.compute.ComputeRefused.TheVariants as compute_refused
-use Rattle.moka_calls.specs.Computing.{InTurn, Upserts, HandsOutUpserted, Puts, Takes, Computes, HandsOutComputedPut}
+use Rattle.moka_calls.specs.Computing.{InTurn, Upserts, HandsOutUpserted, Puts, Takes, Computes, HandsOutComputedPut, HandsOutTaken}
+use Rattle.moka_cache.specs.Keyed.{IsOfChange}
 use Rattle.moka_calls.proofs.Made.{made_then, made_more}
 use Rattle.moka_cache.proofs.Entries.{same_hash}
 
@@ -125,3 +128,25 @@ was_seen {K} {V} eq says is_clone s mid key now (Some v) (Some t) (r, here, visi
     go (Some p) there is =
         let was = stays p there in
         subst (λ x. is_clone x v) (sym (same_Some t.0 p.value is ∙ was.2 ∙ ap (λ (x : Record K V). x.value) (same_Some was.0 r (sym was.1 ∙ here)))) cloned
+
+-- ---- why a call that computes is refused
+
+module _ {K V : Type 0} (is_key_clone : K → K → Type 0) (is_clone : V → V → Type 0) (key : K) where
+  -- a put is refused by its insert
+  pub refused_put : (there : Bool) (own : Result V (InsertRefused K V)) (result : Result (CompResult K V) (ComputeRefused K V)) → HandsOutComputedPut is_key_clone is_clone key there own result → IfErr result IsOfChange
+  refused_put there own (Ok e) handed = tt
+  refused_put there own (Err (compute_refused.Insert r)) handed = tt
+  refused_put there own (Err (compute_refused.NotTold k r)) handed = tt
+  refused_put true (Ok own) (Err (compute_refused.Lookup k)) handed = absurd handed
+  refused_put false (Ok own) (Err (compute_refused.Lookup k)) handed = absurd handed
+  refused_put true (Err refused) (Err (compute_refused.Lookup k)) handed = absurd handed
+  refused_put false (Err refused) (Err (compute_refused.Lookup k)) handed = absurd handed
+
+  -- and a removal only as its listener cannot be told
+  pub refused_take : (taken : Option (V × Result (Unit {0}) OutOfMemory)) (result : Result (CompResult K V) (ComputeRefused K V)) → HandsOutTaken is_key_clone is_clone key taken result → IfErr result IsOfChange
+  refused_take taken (Ok e) handed = tt
+  refused_take taken (Err (compute_refused.Insert r)) handed = tt
+  refused_take taken (Err (compute_refused.NotTold k r)) handed = tt
+  refused_take None (Err (compute_refused.Lookup k)) handed = absurd handed
+  refused_take (Some (value, Ok told)) (Err (compute_refused.Lookup k)) handed = absurd handed
+  refused_take (Some (value, Err refused)) (Err (compute_refused.Lookup k)) handed = absurd handed

@@ -202,3 +202,17 @@ module _ {K V S X L P W C : Type 0} (is_clone : V → V → Type 0) (m : Meaning
   always_answers Fails Answers made (Ok (Err never)) result came also = elim never [ ]
   always_answers Fails Answers made (Ok (Ok v)) (Err e) came also = absurd came.1
   always_answers Fails Answers made (Err r) (Ok x) came also = absurd came.1
+
+-- ---- why it is refused
+
+module _ {A E : Type 0} (Q : E → Type 0) where
+  -- a maker that never fails refuses nothing
+  pub refused_anyway : (answer : Result A E) → IfErr (without_error {F = Infallible} answer) Q → IfErr answer Q
+  refused_anyway (Ok made) why = why
+  refused_anyway (Err refused) why = why
+
+  -- nor does one that may decline
+  pub refused_if_made : (answer : Result (Result A (Unit {0})) E) → IfErr answer Q → IfErr (if_made answer) Q
+  refused_if_made (Ok (Ok made)) why = why
+  refused_if_made (Ok (Err declined)) why = why
+  refused_if_made (Err refused) why = why

@@ -1,6 +1,6 @@
 -- What a call by key promises of a synchronous cache, whoever makes it: a caller, a cache with a clock of its own, or one
 -- in segments.
-use Rattle.std.specs.Prelude.{◌≡◌, ℕ, Bool, [], true, false, Option, Some, None, Result, IfOk, IfErr, IfSome, OnErr, is_some}
+use Rattle.std.specs.Prelude.{◌≡◌, ℕ, Bool, [], true, false, Option, Some, None, Result, IfOk, IfErr, IfSome, OnErr, is_some, ⊤}
 use Rattle.moka_types.specs.declared.error.InsertRefused.{InsertRefused}
 use Rattle.moka_types.specs.declared.error.OutOfMemory.{OutOfMemory}
 use Rattle.moka_records.specs.declared.instant.Instant.{Instant}
@@ -13,10 +13,28 @@ use Rattle.moka_records.specs.KeyTests.{record_by}
 use Rattle.moka_records.specs.Records.{record_of_key}
 use Rattle.moka_parts.specs.State.{Meaning, is_disabled}
 use Rattle.moka_calls.specs.declared.error.GetWithRefused.{GetWithRefused}
+use Rattle.moka_calls.specs.declared.error.GetWithRefused.TheVariants.{Lookup, Insert}
+use Rattle.moka_calls.specs.declared.compute.ComputeRefused.{ComputeRefused}
+use Rattle.moka_calls.specs.declared.compute.ComputeRefused.TheVariants as compute_refused
 use Rattle.moka_calls.specs.Given.{Sees}
 use Rattle.moka_calls.specs.Synchronous as own
 use Rattle.moka_calls.specs.Synchronous.{Synchronous, Made, Makes, hears_clones, InsertsEntry, GetsValue, RemovesEntry}
 use Rattle.moka_cache.specs.Unsent.{IsThere, ShowsWrites}
+
+-- if a listener is set, it can be notified of this record, if there is one: no clone of its key or value is refused
+abbrev pub CanNotify : {K V : Type 0} → (K → Type 0) → (V → Type 0) → Bool → Option (Record K V) → Type 0
+CanNotify is_key_infallible is_infallible listening sought = listening ≡ true →
+    (r : Record _ _) → sought ≡ Some r → is_key_infallible r.key × is_infallible r.value
+
+-- it was the insert that was refused, and not the look-up before it
+abbrev pub IsOfInsert : {K V : Type 0} → GetWithRefused K V → Type 0
+IsOfInsert (Lookup key) = ⊥
+IsOfInsert (Insert refused) = ⊤
+
+-- the same of an insert or a removal
+abbrev pub IsOfChange : {K V : Type 0} → ComputeRefused K V → Type 0
+IsOfChange (compute_refused.Lookup key) = ⊥
+IsOfChange refused = ⊤
 
 -- of this key, which is hashed so, at this moment, with the clock before and after
 module _ {K V S X L P W C : Type 0} (m : Meaning K V X L P W C (Unit {0})) (hash_of : S → K → ℕ) (key : K)

@@ -1,5 +1,5 @@
 //! The synchronous cache: put, get and remove in one call each. moka: `sync::cache`.
-ghost use Rattle.std.specs.Prelude.{◌≡◌, ◌≤◌, [], true, false, Option, Some, None, Result, Ok, Err, IfOk, OnErr, IfErr, is_some, option_copied, unwrap_or, option_map};
+ghost use Rattle.std.specs.Prelude.{◌≡◌, ◌≤◌, [], true, false, Option, Some, None, Result, Ok, Err, IfOk, OnErr, IfErr, IfSome, IsOk, is_some, option_copied, unwrap_or, option_map};
 ghost use Rattle.std.specs.FinMap as finite;
 ghost use Rattle.moka_parts.specs.Calls.{CapacityStep, ContainsStep, InvalidateStep, no_events, only_ids};
 ghost use Rattle.moka_parts.specs.Copies.{IsCopiedAnswer};
@@ -9,13 +9,14 @@ ghost use Rattle.moka_parts.specs.Runs.{Befalls};
 ghost use Rattle.moka_parts.specs.State.{Events, is_disabled, limits_of};
 ghost use Rattle.moka_parts.specs.Surroundings.{Leads};
 ghost use Rattle.moka_engine.specs.Config.{new_engine};
+ghost use Rattle.moka_engine.specs.Looks.{CanHandOutValue};
 ghost use Rattle.moka_types.specs.declared.calls.Reply.TheVariants as reply;
 ghost use Rattle.moka_types.specs.declared.error.InsertRefused.{InsertRefused};
 ghost use Rattle.moka_types.specs.declared.error.OutOfMemory.{OutOfMemory};
 ghost use Rattle.moka_records.specs.declared.records.Operation.{Operation};
 ghost use Rattle.moka_records.specs.declared.records.Record.{Record};
 ghost use Rattle.moka_records.specs.Hashing.{key_hash};
-ghost use Rattle.moka_cache.specs.Keyed.{Gets, Inserts, Removes};
+ghost use Rattle.moka_cache.specs.Keyed.{CanNotify, Gets, Inserts, IsOfInsert, Removes};
 ghost use Rattle.moka_cache.specs.Unsent.{HoldsUnsent, HidesNoMore, IsThere, ShowsWrites};
 ghost use Rattle.moka_parts.specs.Counters.{after_look_up, after_load};
 ghost use Rattle.moka_calls.specs.Given.{Sees};
@@ -282,9 +283,11 @@ impl<
         K: Clone + Drop,
         V: Clone + Drop,
         P: Drop,
-        ensures { Gets (meaning_of K.eq L.tells P.says W.weighs C.reads X.created X.read X.updated)
+        ensures step { Gets (meaning_of K.eq L.tells P.says W.weighs C.reads X.created X.read X.updated)
             (λ h k. key_hash S.BuildHasher S.Hasher.Hasher h (K.hash_input k)) key.now now clock.old clock.new
             V.is_clone result self.old self.new }
+        ensures succeeds { CanHandOutValue V.is_infallible
+            (record_of_key K.eq self.old.engine.state.records key.now) → IsOk result }
     {
         let hash = self.engine.hash(key);
         self.get_hashed(key, hash, now, clock)
@@ -312,6 +315,8 @@ impl<
         ensures sees { IfOk result (Sees K.eq P.says V.is_clone self.old.engine.state key.now now.0) }
         ensures shown { IfOk result
             (λ found. ContainsStep P.says K.eq self.old.engine.state key.now now.0 (is_some found)) }
+        ensures succeeds { CanHandOutValue V.is_infallible
+            (record_of_key K.eq self.old.engine.state.records key.now) → IsOk result }
         ensures unchanged { OnErr result ((self.new.engine.state ≡ self.old.engine.state) × (clock.new ≡ clock.old)) }
         ensures counted { self.new.stats ≡ after_look_up result self.old.stats }
         ensures stays { (p : Record K V) → record_of_key K.eq self.new.engine.state.records key.now ≡ Some p
@@ -344,6 +349,8 @@ impl<
         ensures step { Removes (meaning_of K.eq L.tells P.says W.weighs C.reads X.created X.read X.updated)
             (λ h k. key_hash S.BuildHasher S.Hasher.Hasher h (K.hash_input k)) key.now now clock.old clock.new
             K.is_clone V.is_clone (λ taken. result ≡ removed taken) self.old self.new }
+        ensures succeeds { CanNotify K.is_infallible V.is_infallible self.old.engine.state.settings.listening
+            (record_of_key K.eq self.old.engine.state.records key.now) → IsOk result }
         ensures value { taken_out result
             ≡ option_map (λ r. r.value) (record_of_key K.eq self.old.engine.state.records key.now) }
     {
@@ -365,9 +372,11 @@ impl<
         K: Clone + Drop,
         V: Clone + Drop,
         P: Drop,
-        ensures { Removes (meaning_of K.eq L.tells P.says W.weighs C.reads X.created X.read X.updated)
+        ensures step { Removes (meaning_of K.eq L.tells P.says W.weighs C.reads X.created X.read X.updated)
             (λ h k. key_hash S.BuildHasher S.Hasher.Hasher h (K.hash_input k)) key.now now clock.old clock.new
             K.is_clone V.is_clone (λ taken. result ≡ invalidated taken) self.old self.new }
+        ensures succeeds { CanNotify K.is_infallible V.is_infallible self.old.engine.state.settings.listening
+            (record_of_key K.eq self.old.engine.state.records key.now) → IsOk result }
     {
         let hash = self.engine.hash(key);
         invalidated(self.take(key, hash, now, clock))
@@ -391,6 +400,8 @@ impl<
             (RemovesEntry key.now
             (key_hash S.BuildHasher S.Hasher.Hasher self.old.engine.hasher (K.hash_input key.now)) now result)
             self.old.engine clock.old self.new.engine clock.new }
+        ensures notified { CanNotify K.is_infallible V.is_infallible self.old.engine.state.settings.listening
+            (record_of_key K.eq self.old.engine.state.records key.now) → IfSome result (λ t. IsOk t.1) }
         ensures gone { record_of_key K.eq self.new.engine.state.records key.now ≡ None }
         ensures value { option_map (λ t. t.0) result
             ≡ option_map (λ r. r.value) (record_of_key K.eq self.old.engine.state.records key.now) }
@@ -422,9 +433,11 @@ impl<
         V: Clone + Drop,
         P: Drop,
         requires callable { ContainsStep P.says K.eq self.old.engine.state key now.0 false → F.pre init }
-        ensures { GetsWith (meaning_of K.eq L.tells P.says W.weighs C.reads X.created X.read X.updated)
+        ensures step { GetsWith (meaning_of K.eq L.tells P.says W.weighs C.reads X.created X.read X.updated)
             V.is_clone key (key_hash S.BuildHasher S.Hasher.Hasher self.old.engine.hasher (K.hash_input key)) now
             self.old clock.old self.new clock.new (F.post init) result }
+        ensures looks_up { CanHandOutValue V.is_infallible
+            (record_of_key K.eq self.old.engine.state.records key) → IfErr result IsOfInsert }
     {
         always_made(self.try_get_with(key, || Ok(init()), now, clock))
     }
@@ -445,9 +458,11 @@ impl<
         V: Clone + Drop,
         P: Drop,
         requires callable { ContainsStep P.says K.eq self.old.engine.state key now.0 false → F.pre init }
-        ensures { GetsWithIfMade (meaning_of K.eq L.tells P.says W.weighs C.reads X.created X.read X.updated)
+        ensures step { GetsWithIfMade (meaning_of K.eq L.tells P.says W.weighs C.reads X.created X.read X.updated)
             V.is_clone key (key_hash S.BuildHasher S.Hasher.Hasher self.old.engine.hasher (K.hash_input key)) now
             self.old clock.old self.new clock.new (F.post init) result }
+        ensures looks_up { CanHandOutValue V.is_infallible
+            (record_of_key K.eq self.old.engine.state.records key) → IfErr result IsOfInsert }
     {
         if_made(self.try_get_with(key, || init().ok_or(()), now, clock))
     }
@@ -476,9 +491,11 @@ impl<
         V: Clone + Drop,
         P: Drop,
         requires callable { ContainsStep P.says K.eq self.old.engine.state key now.0 false → F.pre init }
-        ensures { GetsWithIfNoError (meaning_of K.eq L.tells P.says W.weighs C.reads X.created X.read X.updated)
+        ensures step { GetsWithIfNoError (meaning_of K.eq L.tells P.says W.weighs C.reads X.created X.read X.updated)
             V.is_clone key (key_hash S.BuildHasher S.Hasher.Hasher self.old.engine.hasher (K.hash_input key)) now
             self.old clock.old self.new clock.new (F.post init) result }
+        ensures looks_up { CanHandOutValue V.is_infallible
+            (record_of_key K.eq self.old.engine.state.records key) → IfErr result IsOfInsert }
     {
         let hash = self.engine.hash(&key);
         match self.get_hashed(&key, hash, now, clock) {

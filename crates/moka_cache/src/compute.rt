@@ -1,11 +1,13 @@
 //! Entry calls that compute a key's value from the one that is there. moka: `ops::compute`, `sync::entry_selector`.
-ghost use Rattle.std.specs.Prelude.{◌≡◌, Option, Some, None, Result, Ok, Err, option_copied, option_map};
+ghost use Rattle.std.specs.Prelude.{◌≡◌, Option, Some, None, Result, Ok, Err, IfErr, option_copied, option_map};
 ghost use Rattle.moka_records.specs.Records.{record_of_key};
 ghost use Rattle.moka_types.specs.declared.error.InsertRefused.{InsertRefused};
 ghost use Rattle.moka_types.specs.declared.error.OutOfMemory.{OutOfMemory};
 ghost use Rattle.moka_calls.specs.Computing.{HandsOutComputedPut, HandsOutTaken, AndUpserts, AndComputes};
 ghost use Rattle.moka_calls.specs.Given.{Sees};
 ghost use Rattle.moka_records.specs.Hashing.{key_hash};
+ghost use Rattle.moka_engine.specs.Looks.{CanHandOutValue};
+ghost use Rattle.moka_cache.specs.Keyed.{IsOfChange, IsOfInsert};
 ghost use Rattle.moka_calls.specs.Synchronous.{InsertsMade, Makes, RemovesEntry, hears_clones, meaning_of};
 
 use crate::cache::{Cache, Put};
@@ -53,10 +55,12 @@ impl<
         P: Drop,
         requires callable { (seen : Option V) → Sees K.eq P.says V.is_clone self.old.engine.state key now.0 seen
             → F.pre f seen }
-        ensures { AndUpserts (meaning_of K.eq L.tells P.says W.weighs C.reads X.created X.read X.updated)
+        ensures step { AndUpserts (meaning_of K.eq L.tells P.says W.weighs C.reads X.created X.read X.updated)
             K.is_clone V.is_clone key
             (key_hash S.BuildHasher S.Hasher.Hasher self.old.engine.hasher (K.hash_input key)) now
             self.old clock.old self.new clock.new (F.post f) result }
+        ensures looks_up { CanHandOutValue V.is_infallible
+            (record_of_key K.eq self.old.engine.state.records key) → IfErr result IsOfInsert }
     {
         let hash = self.hash_of(&key);
         let Ok(seen) = self.get_hashed(&key, hash, now, clock) else {
@@ -98,12 +102,14 @@ impl<
         P: Drop,
         requires callable { (seen : _)
             → Sees K.eq P.says V.is_clone self.old.engine.state key now.0 (option_copied seen) → F.pre f seen }
-        ensures { AndComputes (meaning_of K.eq (hears_clones K.is_clone V.is_clone L.tells) P.says W.weighs C.reads
+        ensures step { AndComputes (meaning_of K.eq (hears_clones K.is_clone V.is_clone L.tells) P.says W.weighs C.reads
             X.created X.read X.updated)
             K.is_clone V.is_clone key
             (key_hash S.BuildHasher S.Hasher.Hasher self.old.engine.hasher (K.hash_input key)) now
             self.old clock.old self.new clock.new (λ seen op. (x : _) × (option_copied x ≡ seen)
             × F.post f x op) result }
+        ensures looks_up { CanHandOutValue V.is_infallible
+            (record_of_key K.eq self.old.engine.state.records key) → IfErr result IsOfChange }
     {
         let hash = self.hash_of(&key);
         let Ok(seen) = self.get_hashed(&key, hash, now, clock) else {

@@ -1,11 +1,14 @@
 //! Entry calls: a look-up and what follows it in one call. moka: `sync::entry_selector`.
 //!
 //! `cache.entry(key).or_insert(value, ..)` is `cache.get_or_insert(key, value, ..)`, and so on: each call names moka's.
-ghost use Rattle.std.specs.Prelude.{◌≡◌, true, false, Option, Some, None, Result, Ok, Err, IfOk, IfErr};
+ghost use Rattle.std.specs.Prelude.{◌≡◌, true, false, Option, Some, None, Result, Ok, Err, IfOk, IfErr, IsOk};
 ghost use Rattle.moka_parts.specs.Calls.{ContainsStep};
 ghost use Rattle.moka_types.specs.declared.error.InsertRefused.{InsertRefused};
 ghost use Rattle.moka_calls.specs.Entries.{entry_value, IsFresh, OrInserts, OrInsertsMade, OrInsertsIfMade, OrInsertsIfNoError};
 ghost use Rattle.moka_records.specs.Hashing.{key_hash};
+ghost use Rattle.moka_records.specs.Records.{record_of_key};
+ghost use Rattle.moka_engine.specs.Looks.{CanHandOutValue};
+ghost use Rattle.moka_cache.specs.Keyed.{IsOfInsert};
 ghost use Rattle.moka_calls.specs.Synchronous.{Makes, meaning_of, InsertsMade, HandsOutOwn};
 
 use crate::cache::{Cache, Put};
@@ -45,10 +48,12 @@ impl<
         K: Clone + Drop,
         V: Clone + Drop,
         P: Drop,
-        ensures { OrInserts (meaning_of K.eq L.tells P.says W.weighs C.reads X.created X.read X.updated)
+        ensures step { OrInserts (meaning_of K.eq L.tells P.says W.weighs C.reads X.created X.read X.updated)
             K.is_clone V.is_clone key
             (key_hash S.BuildHasher S.Hasher.Hasher self.old.engine.hasher (K.hash_input key)) now
             self.old clock.old self.new clock.new value result }
+        ensures succeeds { ContainsStep P.says K.eq self.old.engine.state key now.0 true
+            → CanHandOutValue V.is_infallible (record_of_key K.eq self.old.engine.state.records key) → IsOk result }
     {
         let hash = self.hash_of(&key);
         match self.get_hashed(&key, hash, now, clock) {
@@ -81,10 +86,12 @@ impl<
         V: Clone + Drop,
         P: Drop,
         requires callable { ContainsStep P.says K.eq self.old.engine.state key now.0 false → F.pre init }
-        ensures { OrInsertsMade (meaning_of K.eq L.tells P.says W.weighs C.reads X.created X.read X.updated)
+        ensures step { OrInsertsMade (meaning_of K.eq L.tells P.says W.weighs C.reads X.created X.read X.updated)
             K.is_clone V.is_clone key
             (key_hash S.BuildHasher S.Hasher.Hasher self.old.engine.hasher (K.hash_input key)) now
             self.old clock.old self.new clock.new (F.post init) result }
+        ensures looks_up { CanHandOutValue V.is_infallible
+            (record_of_key K.eq self.old.engine.state.records key) → IfErr result IsOfInsert }
     {
         always_made(self.get_or_try_insert_with(key, || Ok(init()), now, clock))
     }
@@ -106,10 +113,12 @@ impl<
         V: Clone + Drop,
         P: Drop,
         requires callable { ContainsStep P.says K.eq self.old.engine.state key now.0 false → F.pre init }
-        ensures { OrInsertsIfMade (meaning_of K.eq L.tells P.says W.weighs C.reads X.created X.read X.updated)
+        ensures step { OrInsertsIfMade (meaning_of K.eq L.tells P.says W.weighs C.reads X.created X.read X.updated)
             K.is_clone V.is_clone key
             (key_hash S.BuildHasher S.Hasher.Hasher self.old.engine.hasher (K.hash_input key)) now
             self.old clock.old self.new clock.new (F.post init) result }
+        ensures looks_up { CanHandOutValue V.is_infallible
+            (record_of_key K.eq self.old.engine.state.records key) → IfErr result IsOfInsert }
     {
         if_made(self.get_or_try_insert_with(key, || init().ok_or(()), now, clock))
     }
@@ -132,10 +141,12 @@ impl<
         V: Clone + Drop,
         P: Drop,
         requires callable { ContainsStep P.says K.eq self.old.engine.state key now.0 false → F.pre init }
-        ensures { OrInsertsIfNoError (meaning_of K.eq L.tells P.says W.weighs C.reads X.created X.read X.updated)
+        ensures step { OrInsertsIfNoError (meaning_of K.eq L.tells P.says W.weighs C.reads X.created X.read X.updated)
             K.is_clone V.is_clone key
             (key_hash S.BuildHasher S.Hasher.Hasher self.old.engine.hasher (K.hash_input key)) now
             self.old clock.old self.new clock.new (F.post init) result }
+        ensures looks_up { CanHandOutValue V.is_infallible
+            (record_of_key K.eq self.old.engine.state.records key) → IfErr result IsOfInsert }
     {
         let hash = self.hash_of(&key);
         match self.get_hashed(&key, hash, now, clock) {

@@ -1,13 +1,16 @@
 //! Entry calls by moka's names: `cache.entry(key)` hands out a selector, and each of its methods is one call of the
 //! cache.
 //! moka: `sync::entry_selector`.
-ghost use Rattle.std.specs.Prelude.{◌≡◌, false, Option, Result, option_copied};
+ghost use Rattle.std.specs.Prelude.{◌≡◌, false, true, IfErr, IsOk, Option, Result, option_copied};
 ghost use Rattle.moka_parts.specs.Calls.{ContainsStep};
 ghost use Rattle.moka_types.specs.declared.error.InsertRefused.{InsertRefused};
 ghost use Rattle.moka_calls.specs.Computing.{AndUpserts, AndComputes};
 ghost use Rattle.moka_calls.specs.Entries.{OrInserts, OrInsertsMade, OrInsertsIfMade, OrInsertsIfNoError};
 ghost use Rattle.moka_calls.specs.Given.{Sees};
 ghost use Rattle.moka_records.specs.Hashing.{key_hash};
+ghost use Rattle.moka_records.specs.Records.{record_of_key};
+ghost use Rattle.moka_engine.specs.Looks.{CanHandOutValue};
+ghost use Rattle.moka_cache.specs.Keyed.{IsOfChange, IsOfInsert};
 ghost use Rattle.moka_calls.specs.Synchronous.{meaning_of, hears_clones};
 
 use crate::cache::Cache;
@@ -78,10 +81,13 @@ impl<
         K: Clone + Drop,
         V: Clone + Drop,
         P: Drop,
-        ensures { OrInserts (meaning_of K.eq L.tells P.says W.weighs C.reads X.created X.read X.updated)
+        ensures step { OrInserts (meaning_of K.eq L.tells P.says W.weighs C.reads X.created X.read X.updated)
             K.is_clone V.is_clone self.entry.key (key_hash S.BuildHasher S.Hasher.Hasher
             self.entry.cache.now.engine.hasher (K.hash_input self.entry.key)) now
             self.entry.cache.now clock.old self.exit.0.now clock.new value result }
+        ensures succeeds { ContainsStep P.says K.eq self.entry.cache.now.engine.state self.entry.key now.0 true
+            → CanHandOutValue V.is_infallible
+            (record_of_key K.eq self.entry.cache.now.engine.state.records self.entry.key) → IsOk result }
     {
         let OwnedKeyEntrySelector { cache, key } = self;
         cache.get_or_insert(key, value, now, clock)
@@ -103,10 +109,12 @@ impl<
         V: Clone + Drop,
         P: Drop,
         requires callable { ContainsStep P.says K.eq self.cache.now.engine.state self.key now.0 false → F.pre init }
-        ensures { OrInsertsMade (meaning_of K.eq L.tells P.says W.weighs C.reads X.created X.read X.updated)
+        ensures step { OrInsertsMade (meaning_of K.eq L.tells P.says W.weighs C.reads X.created X.read X.updated)
             K.is_clone V.is_clone self.entry.key (key_hash S.BuildHasher S.Hasher.Hasher
             self.entry.cache.now.engine.hasher (K.hash_input self.entry.key)) now
             self.entry.cache.now clock.old self.exit.0.now clock.new (F.post init) result }
+        ensures looks_up { CanHandOutValue V.is_infallible
+            (record_of_key K.eq self.entry.cache.now.engine.state.records self.entry.key) → IfErr result IsOfInsert }
     {
         let OwnedKeyEntrySelector { cache, key } = self;
         cache.get_or_insert_with(key, init, now, clock)
@@ -128,10 +136,12 @@ impl<
         V: Clone + Drop,
         P: Drop,
         requires callable { ContainsStep P.says K.eq self.cache.now.engine.state self.key now.0 false → F.pre init }
-        ensures { OrInsertsIfMade (meaning_of K.eq L.tells P.says W.weighs C.reads X.created X.read X.updated)
+        ensures step { OrInsertsIfMade (meaning_of K.eq L.tells P.says W.weighs C.reads X.created X.read X.updated)
             K.is_clone V.is_clone self.entry.key (key_hash S.BuildHasher S.Hasher.Hasher
             self.entry.cache.now.engine.hasher (K.hash_input self.entry.key)) now
             self.entry.cache.now clock.old self.exit.0.now clock.new (F.post init) result }
+        ensures looks_up { CanHandOutValue V.is_infallible
+            (record_of_key K.eq self.entry.cache.now.engine.state.records self.entry.key) → IfErr result IsOfInsert }
     {
         let OwnedKeyEntrySelector { cache, key } = self;
         cache.get_or_optionally_insert_with(key, init, now, clock)
@@ -153,10 +163,12 @@ impl<
         V: Clone + Drop,
         P: Drop,
         requires callable { ContainsStep P.says K.eq self.cache.now.engine.state self.key now.0 false → F.pre init }
-        ensures { OrInsertsIfNoError (meaning_of K.eq L.tells P.says W.weighs C.reads X.created X.read X.updated)
+        ensures step { OrInsertsIfNoError (meaning_of K.eq L.tells P.says W.weighs C.reads X.created X.read X.updated)
             K.is_clone V.is_clone self.entry.key (key_hash S.BuildHasher S.Hasher.Hasher
             self.entry.cache.now.engine.hasher (K.hash_input self.entry.key)) now
             self.entry.cache.now clock.old self.exit.0.now clock.new (F.post init) result }
+        ensures looks_up { CanHandOutValue V.is_infallible
+            (record_of_key K.eq self.entry.cache.now.engine.state.records self.entry.key) → IfErr result IsOfInsert }
     {
         let OwnedKeyEntrySelector { cache, key } = self;
         cache.get_or_try_insert_with(key, init, now, clock)
@@ -179,10 +191,12 @@ impl<
         P: Drop,
         requires callable { (seen : Option V)
             → Sees K.eq P.says V.is_clone self.cache.now.engine.state self.key now.0 seen → F.pre f seen }
-        ensures { AndUpserts (meaning_of K.eq L.tells P.says W.weighs C.reads X.created X.read X.updated)
+        ensures step { AndUpserts (meaning_of K.eq L.tells P.says W.weighs C.reads X.created X.read X.updated)
             K.is_clone V.is_clone self.entry.key (key_hash S.BuildHasher S.Hasher.Hasher
             self.entry.cache.now.engine.hasher (K.hash_input self.entry.key)) now
             self.entry.cache.now clock.old self.exit.0.now clock.new (F.post f) result }
+        ensures looks_up { CanHandOutValue V.is_infallible
+            (record_of_key K.eq self.entry.cache.now.engine.state.records self.entry.key) → IfErr result IsOfInsert }
     {
         let OwnedKeyEntrySelector { cache, key } = self;
         cache.upsert_with(key, f, now, clock)
@@ -206,12 +220,14 @@ impl<
         requires callable { (seen : _)
             → Sees K.eq P.says V.is_clone self.cache.now.engine.state self.key now.0 (option_copied seen)
             → F.pre f seen }
-        ensures { AndComputes (meaning_of K.eq (hears_clones K.is_clone V.is_clone L.tells) P.says W.weighs C.reads
+        ensures step { AndComputes (meaning_of K.eq (hears_clones K.is_clone V.is_clone L.tells) P.says W.weighs C.reads
             X.created X.read X.updated)
             K.is_clone V.is_clone self.entry.key (key_hash S.BuildHasher S.Hasher.Hasher
             self.entry.cache.now.engine.hasher (K.hash_input self.entry.key)) now
             self.entry.cache.now clock.old self.exit.0.now clock.new (λ seen op. (x : _) × (option_copied x ≡ seen)
             × F.post f x op) result }
+        ensures looks_up { CanHandOutValue V.is_infallible
+            (record_of_key K.eq self.entry.cache.now.engine.state.records self.entry.key) → IfErr result IsOfChange }
     {
         let OwnedKeyEntrySelector { cache, key } = self;
         cache.compute_with(key, f, now, clock)

@@ -11,7 +11,7 @@ use Rattle.moka_parts.specs.State.{Meaning}
 use Rattle.moka_parts.specs.Surroundings.{Leads}
 use Rattle.moka_calls.specs.Laws.{MadeAnytime, anytime}
 use Rattle.moka_calls.specs.Synchronous.{Made}
-use Rattle.moka_calls.proofs.Lists.{ages_out, goes_on, keeps_promises}
+use Rattle.moka_calls.proofs.Lists.{ages_out, ages_out_in_time, goes_on, keeps_promises}
 use Rattle.moka_calls.proofs.Made.{made_otherwise, otherwise}
 
 -- a clock or a source that may tell anything may tell these
@@ -39,4 +39,5 @@ module _ {K V X L P W C : Type 0} (S : Type 0) (m : Meaning K V X L P W C (Unit 
     goes_on = goes_on S (anytime m);
     keeps_promises = keeps_promises S (anytime m) laws;
     ages_out = ages_out S (anytime m) laws;
+    ages_out_in_time = ages_out_in_time S (anytime m) laws;
   }

@@ -4,4 +4,5 @@ pub mod Anytime
 mod Counting
 mod Registering
 mod Telling
+pub mod InTime
 pub mod Limits

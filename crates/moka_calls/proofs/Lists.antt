@@ -1,5 +1,5 @@
 -- Lists of calls that a cache made.
-use Rattle.std.proofs.Common.{refl, List, [], ◌∷◌, subst, inl, inr}
+use Rattle.std.proofs.Common.{refl, List, [], ◌∷◌, subst, sym, inl, inr}
 use Rattle.std.specs.Cmp.{IsEquivalence}
 use Rattle.moka_parts.specs.declared.notification.RemovalCause.{RemovalCause}
 use Rattle.moka_types.specs.declared.calls.Call.{Call}
@@ -11,7 +11,9 @@ use Rattle.moka_parts.specs.Order.{IsOrderly}
 use Rattle.moka_parts.specs.Runs.{Step, AreOrderly}
 use Rattle.moka_laws.proofs.OrderedDrive.{drives_in_order, empty_in_order, listed_steps_orderly}
 use Rattle.moka_calls.specs.Synchronous.{IsSentInOrder, AreSentInOrder, hears_clones}
-use Rattle.moka_calls.specs.Laws.{IsTimely, AreTimely, GoesOn, KeepsPromises, MadeRunsAgeOut, HearsClones, HearsThemselves, InvalidateAllIsMade, SetMaxCapacityIsMade}
+use Rattle.moka_calls.specs.Laws.{IsTimely, AreTimely, GoesOn, InsertsAreInTime, KeepsPromises, MadeRunsAgeOut, RunsAgeOutInTime, HearsClones, HearsThemselves, InvalidateAllIsMade, SetMaxCapacityIsMade}
+use Rattle.moka_laws.proofs.Promises.{is_of_reference}
+use Rattle.moka_calls.proofs.InTime.{are_timely, none_written}
 use Rattle.moka_calls.proofs.Made.{made_one, made_then, made_more}
 
 module _ {K V X P W : Type 0} where
@@ -40,6 +42,10 @@ module _ {K V X L P W C : Type 0} (S : Type 0) (m : Meaning K V X L P W C (Unit 
   pub ages_out : IsEquivalence m.eq → MadeRunsAgeOut S m
   ages_out laws calls replies old new clock clock_after valid empty listed made timely =
       listed_steps_orderly m old.state old.write_list new.write_list made.steps laws valid (λ kept. empty_in_order old.state old.write_list empty (listed kept)) (all_orderly old.state made.steps timely made.in_order) made.listed
+
+  pub ages_out_in_time : IsEquivalence m.eq → RunsAgeOutInTime S m
+  ages_out_in_time laws calls replies old new clock clock_after valid empty listed rise made =
+      ages_out laws calls replies old new clock clock_after valid empty listed made (are_timely m laws old.state made.steps 0 valid (is_of_reference S m calls replies made.steps old new clock clock_after tt tt made.is_run).are_steps (subst (InsertsAreInTime 0) (sym made.is_run.calls_made) rise) (none_written old.state empty))
 
   module _ (is_key_clone : K → K → Type 0) (is_value_clone : V → V → Type 0) where
     pub hears_more : HearsClones S m is_key_clone is_value_clone

@@ -1,5 +1,5 @@
 -- What is promised of lists of calls that a cache made.
-use Rattle.std.specs.Prelude.{◌≡◌, ℕ, true, List, [], ◌∷◌, ◌++◌, Option, Some, Result, ⊤}
+use Rattle.std.specs.Prelude.{◌≡◌, ℕ, true, List, [], ◌∷◌, ◌++◌, Option, Some, None, Result, ⊤}
 use Rattle.moka_types.specs.declared.calls.Call.{Call}
 use Rattle.moka_types.specs.declared.calls.Call.TheVariants as call
 use Rattle.moka_types.specs.declared.calls.Reply.{Reply}
@@ -9,6 +9,7 @@ use Rattle.moka_records.specs.declared.instant.Instant.{Instant}
 use Rattle.moka_parts.specs.Calls.{CapacityStep, no_events}
 use Rattle.moka_parts.specs.State.{State, Meaning, keeps_write_list}
 use Rattle.moka_parts.specs.Settling.{IsValid}
+use Rattle.moka_parts.specs.Laws.{IsNoEarlier, later_of}
 use Rattle.moka_parts.specs.Order.{IsOrderly, IsWriteList}
 use Rattle.moka_parts.specs.Runs.{Engine, Step, AreSteps, Befalls, OrderlyRun, IsEmpty}
 use Rattle.moka_parts.specs.Drives.{Drives}
@@ -24,6 +25,16 @@ IsTimely s c = ⊤
 abbrev pub AreTimely : {K V X P W : Type 0} → State K V X P W → List (Step K V X P W) → Type 0
 AreTimely s [] = Unit {0}
 AreTimely s (x ∷ xs) = IsTimely s x.call × AreTimely x.after xs
+
+-- the moment of an insert
+abbrev pub inserted_at : {K V P : Type 0} → Call K V P → Option ℕ
+inserted_at (call.Insert key hash value now) = Some now.0
+inserted_at c = None
+
+-- inserts come in the order of time, from this moment on
+abbrev pub InsertsAreInTime : {K V P : Type 0} → ℕ → List (Call K V P) → Type 0
+InsertsAreInTime t [] = Unit {0}
+InsertsAreInTime t (c ∷ cs) = IsNoEarlier t (inserted_at c) × InsertsAreInTime (later_of t (inserted_at c)) cs
 
 -- the same but for the clock, which may tell any moment: so it may be moved between two calls
 abbrev pub anytime : {K V X L P W C I : Type 0} → Meaning K V X L P W C I → Meaning K V X L P W (Unit {0}) I
@@ -76,6 +87,14 @@ module _ {K V X L P W C : Type 0} (S : Type 0) (m : Meaning K V X L P W C (Unit 
       (made : Made m calls replies old clock new clock_after) → AreTimely old.state made.steps →
       AreSteps m (OrderlyRun m.says m.read) old.state made.steps
 
+  -- the same, where inserts come in the order of time
+  abbrev pub RunsAgeOutInTime : Type 0
+  RunsAgeOutInTime = (calls : List (Call K V P)) (replies : List (Reply K V P)) (old new : Engine K V S X L P W)
+      (clock clock_after : C) → IsValid m.eq old.state → IsEmpty old.state →
+      (keeps_write_list old.state.settings ≡ true → IsWriteList old.state old.write_list) → InsertsAreInTime 0 calls →
+      (made : Made m calls replies old clock new clock_after) →
+      AreSteps m (OrderlyRun m.says m.read) old.state made.steps
+
   -- a listener that hears hears of clones
   abbrev pub HearsClones : (K → K → Type 0) → (V → V → Type 0) → Type 0
   HearsClones is_key_clone is_value_clone = (calls : List (Call K V P)) (replies : List (Reply K V P))
@@ -100,3 +119,4 @@ pub record MadeAnytime {K V X L P W C : Type 0} (S : Type 0) (m : Meaning K V X 
   pub goes_on : GoesOn S (anytime m)
   pub keeps_promises : KeepsPromises S (anytime m)
   pub ages_out : MadeRunsAgeOut S (anytime m)
+  pub ages_out_in_time : RunsAgeOutInTime S (anytime m)

@@ -8,7 +8,7 @@ ghost use Rattle.moka_calls.specs.Synchronous.{meaning_of, hears_clones};
 ghost use Rattle.moka_calls.specs.Counted.{CountsCalls, AddsUp, SumsToLookUps};
 ghost use Rattle.moka_parts.specs.State.{meaning_of as asking_meaning_of};
 ghost use Rattle.moka_calls.specs.Registering.{JoinsRegistrations};
-ghost use Rattle.moka_calls.specs.Laws.{GoesOn, KeepsPromises, MadeRunsAgeOut, HearsClones, HearsThemselves, InvalidateAllIsMade, MadeAnytime, SetMaxCapacityIsMade, anytime};
+ghost use Rattle.moka_calls.specs.Laws.{GoesOn, KeepsPromises, MadeRunsAgeOut, RunsAgeOutInTime, HearsClones, HearsThemselves, InvalidateAllIsMade, MadeAnytime, SetMaxCapacityIsMade, anytime};
 
 use moka_parts::closures::{PredicateFn, Weigher};
 use moka_parts::housekeeper::Clock;
@@ -118,7 +118,8 @@ pub fn keeps_promises<
 
 /// From an empty cache that keeps the order of writing, since it has a time to live or supports predicates: if no
 /// insert is earlier than a write that is there, each whole run that begins with every operation sent leaves nothing
-/// past its time to live, and nothing written before the invalidation of all.
+/// past its time to live, and nothing written before the invalidation of all. The same holds if inserts come in the
+/// order of time, which the list of calls alone tells.
 pub fn ages_out<
     K: Eq,
     V,
@@ -129,7 +130,10 @@ pub fn ages_out<
     W: Weigher<K, V>,
     C: Clock,
 >()
-    ensures { MadeRunsAgeOut S (meaning_of K.eq L.tells P.says W.weighs C.reads X.created X.read X.updated) }
+    ensures timely { MadeRunsAgeOut S
+        (meaning_of K.eq L.tells P.says W.weighs C.reads X.created X.read X.updated) }
+    ensures in_time { RunsAgeOutInTime S
+        (meaning_of K.eq L.tells P.says W.weighs C.reads X.created X.read X.updated) }
 {}
 
 /// What a listener is notified of may be seen as clones, so calls that notify of clones join those that do not.

@@ -1,5 +1,5 @@
--- What a removal makes of a cache with the notice after it, and what tells what waits.
-use Rattle.std.specs.Prelude.{◌≡◌, Bool, List, length, Option, Some, option_map, Result}
+-- What a removal makes of a cache with the notice after it, what tells what waits, and which look-ups are granted.
+use Rattle.std.specs.Prelude.{◌≡◌, Bool, List, length, Option, Some, option_map, Result, Err, ⊤}
 use Rattle.std.specs.FinMap.{len}
 use Rattle.moka_records.specs.declared.instant.Instant.{Instant}
 use Rattle.moka_types.specs.declared.calls.Reply.{Reply}
@@ -29,3 +29,17 @@ abbrev pub TellsPending : {K V X P W : Type 0} → State K V X P W → Reply K V
 TellsPending s (reply.Pending handed oldest writes reads) = (handed ≡ len s.outstanding)
     × (option_map (λ ticket. ticket.0) oldest ≡ oldest_ticket s) × (writes ≡ length s.writes) × (reads ≡ length s.reads)
 TellsPending s r = ⊥
+
+-- no clone of any key or value can fail
+abbrev pub AreInfallible : {K V : Type 0} → (K → Type 0) → (V → Type 0) → Type 0
+AreInfallible is_key_infallible is_infallible =
+    ((key : _) → is_key_infallible key) × ((value : _) → is_infallible value)
+
+-- the reply is not that a look-up, or the notice of a removal, was refused memory
+abbrev pub IsGranted : {K V P : Type 0} → Reply K V P → Type 0
+IsGranted (reply.Get (Err error)) = ⊥
+IsGranted (reply.GetUnrecorded (Err error)) = ⊥
+IsGranted (reply.Scan (Err error)) = ⊥
+IsGranted (reply.Key (Err error)) = ⊥
+IsGranted (reply.Remove removed (Some (Err error))) = ⊥
+IsGranted r = ⊤

@@ -1,5 +1,6 @@
 //! Makes calls one after the other.
-ghost use Rattle.std.specs.Prelude.{◌≡◌, length, List, IfOk, IfErr, OnErr};
+ghost use Rattle.std.specs.Prelude.{◌≡◌, length, List, IfOk, IfErr, IfSome, IsOk, OnErr};
+ghost use Rattle.std.specs.List.{All};
 ghost use Rattle.moka_parts.specs.State.{Events, meaning_of};
 ghost use Rattle.moka_parts.specs.Surroundings.{Leads};
 ghost use Rattle.moka_parts.specs.Calls.{only_notices, KeyStep};
@@ -9,7 +10,7 @@ ghost use Rattle.moka_parts.specs.Drives.{Drives};
 ghost use Rattle.moka_parts.specs.Runs.{Befalls};
 ghost use Rattle.moka_types.specs.declared.calls.Reply.TheVariants.{Report};
 ghost use Rattle.moka_engine.specs.Makes.{Makes as MakesCall};
-ghost use Rattle.moka_drive.specs.Replies.{RemovesAndNotifies, NotifiesEntry, TellsPending};
+ghost use Rattle.moka_drive.specs.Replies.{AreInfallible, IsGranted, RemovesAndNotifies, NotifiesEntry, TellsPending};
 
 use moka_engine::base_cache::BaseCache;
 use moka_parts::calls::{Call, DriveRefused, KvEntry, Reply};
@@ -36,6 +37,8 @@ use std::hash::{BuildHasher, Hash};
 /// such a run also leaves no record past its time to live, and none written before the last invalidation of all. This
 /// applies to caches that have a time to live or support predicates.
 ///
+/// If clones of keys and values cannot fail, as those of numbers cannot, no look-up or notice is refused memory.
+///
 /// # Errors
 /// `OutOfMemory` if there is no room for the replies. The calls come back, and none was made. If a single call is
 /// refused, that is its reply, and the next follows.
@@ -61,6 +64,8 @@ pub fn drive<
     ensures run { IfOk result (λ replies. Drives
         (meaning_of K.eq L.tells P.says W.weighs C.reads I.gives X.created X.read X.updated)
         calls.items replies.items cache.old clock.old ids.old cache.new clock.new ids.new) }
+    ensures granted { AreInfallible K.is_infallible V.is_infallible
+        → IfOk result (λ replies. All IsGranted replies.items) }
     ensures refused { IfErr result (λ e. e.calls ≡ calls) }
     ensures unchanged { OnErr result ((cache.new ≡ cache.old) × (clock.new ≡ clock.old) × (ids.new ≡ ids.old)) }
 {
@@ -95,9 +100,10 @@ fn make<
 ) -> Reply<K, V, P>
     requires keys { ClonesAreEqual K.is_clone }
     requires values { ClonesAreEqual V.is_clone }
-    ensures { MakesCall (meaning_of K.eq L.tells P.says W.weighs C.reads I.gives X.created X.read X.updated) call
+    ensures step { MakesCall (meaning_of K.eq L.tells P.says W.weighs C.reads I.gives X.created X.read X.updated) call
         result cache.old cache.new
         (λ e. Leads C.reads clock.old e.readings clock.new × Leads I.gives ids.old e.ids ids.new) }
+    ensures granted { AreInfallible K.is_infallible V.is_infallible → IsGranted result }
 {
     match call {
         Call::Insert {
@@ -173,8 +179,9 @@ fn remove<
 ) -> Reply<K, V, P>
     requires keys { ClonesAreEqual K.is_clone }
     requires values { ClonesAreEqual V.is_clone }
-    ensures { (e : Events K V) × RemovesAndNotifies K.eq cache.old.state key.now now result e cache.new.state
+    ensures step { (e : Events K V) × RemovesAndNotifies K.eq cache.old.state key.now now result e cache.new.state
         × Befalls L.tells e cache.old cache.new }
+    ensures granted { AreInfallible K.is_infallible V.is_infallible → IsGranted result }
 {
     let Some((entry, ticket)) = cache.remove_entry(key, hash) else {
         return Reply::Remove {
@@ -203,10 +210,11 @@ fn notify<
 ) -> Option<Result<(), OutOfMemory>>
     requires keys { ClonesAreEqual K.is_clone }
     requires values { ClonesAreEqual V.is_clone }
-    ensures { (notices : List (Notice K V))
+    ensures step { (notices : List (Notice K V))
         × NotifiesEntry cache.old.state.settings entry.now now result notices
         × (cache.new.state ≡ cache.old.state)
         × Befalls L.tells (only_notices notices) cache.old cache.new }
+    ensures granted { AreInfallible K.is_infallible V.is_infallible → IfSome result IsOk }
 {
     match now {
         Some(now) => Some(cache.notify_invalidate(entry, now)),
@@ -264,7 +272,8 @@ fn key_of<
     W: Weigher<K, V>,
 >(cache: &BaseCache<K, V, S, X, L, P, W>, key: &K, hash: u64) -> Result<Option<K>, OutOfMemory>
     requires keys { ClonesAreEqual K.is_clone }
-    ensures { KeyStep K.eq cache.now.state key.now result }
+    ensures step { KeyStep K.eq cache.now.state key.now result }
+    ensures granted { ((k : K) → K.is_infallible k) → IsOk result }
 {
     match cache.get_key_with_hash(key, hash) {
         Some(kept) => Ok(Some(kept.clone()?)),

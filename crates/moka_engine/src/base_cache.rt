@@ -1,5 +1,5 @@
 //! The cache. moka: `sync::base_cache`.
-ghost use Rattle.std.specs.Prelude.{◌≡◌, ◌≤◌, ◌||◌, true, false, length, is_some, List, Option, Some, None, Ok, Err, IfOk, IfErr, option_map, option_copied, unwrap_or};
+ghost use Rattle.std.specs.Prelude.{◌≡◌, ◌≤◌, ◌||◌, true, false, length, is_some, List, Option, Some, None, Ok, Err, IfOk, IfErr, IsOk, option_map, option_copied, unwrap_or};
 ghost use Rattle.std.specs.List.{AllZip};
 ghost use Rattle.std.specs.String.{string_bytes};
 ghost use Rattle.moka_records.specs.Hashing.{key_hash};
@@ -19,6 +19,7 @@ ghost use Rattle.moka_types.specs.declared.calls.Call.TheVariants as call;
 ghost use Rattle.moka_types.specs.declared.calls.Reply.TheVariants as reply;
 ghost use Rattle.moka_engine.specs.BaseCache.{IsServed, empty_engine, settings_of};
 ghost use Rattle.moka_lookups.specs.Expirations.{expirations_of};
+ghost use Rattle.moka_engine.specs.Looks.{CanHandOut};
 ghost use Rattle.moka_engine.specs.Makes.{Makes, meaning};
 
 use moka_inner::{Hashes, Inner, Layout};
@@ -504,10 +505,12 @@ impl<
     where
         K: Clone + Drop,
         V: Clone + Drop,
-        ensures { (notices : List (Notice K V))
+        ensures step { (notices : List (Notice K V))
             × NotifiesOfCopy K.is_clone V.is_clone self.old.state.settings entry.now now result notices
             × (self.new.state ≡ self.old.state)
             × Befalls L.tells (only_notices notices) self.old self.new }
+        ensures succeeds { (self.old.state.settings.listening ≡ true
+            → K.is_infallible entry.now.key × V.is_infallible entry.now.value) → IsOk result }
     {
         if !self.is_removal_notifier_enabled() {
             return Ok(());
@@ -629,10 +632,12 @@ impl<
         K: Clone + Drop,
         V: Clone + Drop,
         P: Drop,
-        ensures { HandsOut (IsEntryCopy K.is_clone V.is_clone)
+        ensures step { HandsOut (IsEntryCopy K.is_clone V.is_clone)
             (λ own. Makes (meaning K.eq L.tells P.says W.weighs X.created X.read X.updated)
             (call.Get key.now hash need_key now)
             (reply.Get own) self.old self.new (λ e. Leads C.reads clock.old e.readings clock.new)) result }
+        ensures succeeds { CanHandOut K.is_infallible V.is_infallible need_key
+            (record_of_key K.eq self.old.state.records key.now) → IsOk result }
     {
         let own = self.inner.index_hash(key);
         let sought = (&SameKey(key), Hashes { hash, own });
@@ -657,10 +662,12 @@ impl<
         V: Clone + Drop,
         P: Drop,
         requires own { hash ≡ key_hash S.BuildHasher S.Hasher.Hasher self.old.hasher (K.hash_input key.now) }
-        ensures { HandsOut (IsEntryCopy K.is_clone V.is_clone)
+        ensures step { HandsOut (IsEntryCopy K.is_clone V.is_clone)
             (λ own. Makes (meaning K.eq L.tells P.says W.weighs X.created X.read X.updated)
             (call.Get key.now hash need_key now)
             (reply.Get own) self.old self.new (λ e. Leads C.reads clock.old e.readings clock.new)) result }
+        ensures succeeds { CanHandOut K.is_infallible V.is_infallible need_key
+            (record_of_key K.eq self.old.state.records key.now) → IsOk result }
     {
         self.get_by(&SameKey(key), hash, need_key, now, clock)
     }

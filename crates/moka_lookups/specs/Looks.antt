@@ -36,11 +36,18 @@ module _ {K V X P S : Type 0} (kept : Kept K V S) (expirations : Expirations X) 
       ⊎ ((has_lapsed (expiring_by expirations) bound r now ≡ true) ⊎ SomeCovers says predicates r)
   Finds ignored now (Some found) = IsFound ignored now found.0 found.1
 
-  -- this is handed out of the record that is found, at its handle, unless memory for it is refused
-  abbrev pub HandsFound : {A : Type 0} → (Record K V → A → Type 0) → Bool → ℕ → Look A → Type 0
-  HandsFound Of ignored now Missed = Finds ignored now None
-  HandsFound Of ignored now Refused = (handle : Handle) × (r : Record K V) × IsFound ignored now handle r
-  HandsFound Of ignored now (Found handle a) = (r : Record K V) × IsFound ignored now handle r × Of r a
+  -- this is handed out of the record that is found, at its handle, unless memory for it is refused, which it is of
+  -- none whose clones succeed
+  abbrev pub HandsFound : {A : Type 0} → (Record K V → A → Type 0) → (Record K V → Type 0) → Bool → ℕ → Look A → Type 0
+  HandsFound Of Succeeds ignored now Missed = Finds ignored now None
+  HandsFound Of Succeeds ignored now Refused =
+      (handle : Handle) × (r : Record K V) × IsFound ignored now handle r × ¬ (Succeeds r)
+  HandsFound Of Succeeds ignored now (Found handle a) = (r : Record K V) × IsFound ignored now handle r × Of r a
+
+-- no clone of the record's value is refused, and none of its key if that is asked for
+abbrev pub ClonesSucceed : {K V : Type 0} → (K → Type 0) → (V → Type 0) → Bool → Record K V → Type 0
+ClonesSucceed is_key_infallible is_infallible need_key r =
+    is_infallible r.value × (need_key ≡ true → is_key_infallible r.key)
 
 -- the entry that a get answers: the record's value, and its key where that is asked for
 abbrev pub entry_at : {K V : Type 0} → Bool → Record K V → Entry K V

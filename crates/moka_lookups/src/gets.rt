@@ -1,5 +1,5 @@
 //! What look-ups find, and what a hit changes. moka: `sync::base_cache::BaseCache::do_get_with_hash`.
-ghost use Rattle.std.specs.Prelude.{◌≡◌, ◌<◌, ◌++◌, ◌∷◌, [], Bool, true, false, None, Some, IfOk, length, nat_lt, option_map, if◌then◌else◌};
+ghost use Rattle.std.specs.Prelude.{◌≡◌, ◌<◌, ◌++◌, ◌∷◌, [], Bool, true, false, None, Some, MatchResult, length, nat_lt, option_map, if◌then◌else◌};
 ghost use Rattle.std.specs.Duration.{as_nanos};
 ghost use Rattle.moka_parts.specs.Calls.{queue_length};
 ghost use Rattle.moka_parts.specs.Copies.{IsEntryCopy};
@@ -13,7 +13,7 @@ ghost use Rattle.moka_records.specs.declared.records.ReadOperation.TheVariants a
 ghost use Rattle.moka_store.specs.Hashing.{IsIndexHash};
 ghost use Rattle.moka_store.specs.Store.{ChangesRecord, ExpiresAsBefore, IsHandle};
 ghost use Rattle.moka_lookups.specs.Expirations.{NoneExpires, expiring_by};
-ghost use Rattle.moka_lookups.specs.Looks.{Finds, HandsFound, Touches, entry_at, value_of};
+ghost use Rattle.moka_lookups.specs.Looks.{ClonesSucceed, Finds, HandsFound, Touches, entry_at, value_of};
 
 use moka_parts::calls::Entry;
 use moka_parts::closures::{NoTest, PredicateFn, ValueTest};
@@ -127,7 +127,7 @@ where
         invalidator.now (record_by (T.passes sought.entry.0.now) store.now.records)
         (λ r a. IsEntryCopy K.is_clone V.is_clone (entry_at need_key r) a.0 × (a.1 ≡ r.hash)
         × Touches X.read moments.entry.now.policy.now r moments.entry.now.now.0 a.2.read.0 a.2.expires a.2.is_renewed)
-        ignored moments.entry.now.now.0 result }
+        (ClonesSucceed K.is_infallible V.is_infallible need_key) ignored moments.entry.now.now.0 result }
 {
     let Some((handle, found)) = find_unless(store, moments, invalidator, sought, ignore_if) else {
         return Look::Missed;
@@ -162,7 +162,7 @@ where
         invalidator.now (record_by (T.passes sought.entry.0.now) store.now.records)
         (λ r a. V.is_clone r.value a.0
         × Touches X.read moments.entry.now.policy.now r moments.entry.now.now.0 a.1.read.0 a.1.expires a.1.is_renewed)
-        ignored moments.entry.now.now.0 result }
+        (λ r. V.is_infallible r.value) ignored moments.entry.now.now.0 result }
 {
     let Some((handle, found)) = find_unless(store, moments, invalidator, sought, ignore_if) else {
         return Look::Missed;
@@ -266,10 +266,11 @@ fn entry_and_hit<K: Clone, V: Clone, X: Expiry<K, V>>(
     need_key: bool,
     moments: &Moments<'_, X>,
 ) -> Result<(Entry<K, V>, u64, Hit), OutOfMemory>
-    ensures { IfOk result (λ a. IsEntryCopy K.is_clone V.is_clone (entry_at need_key found.now) a.0
-        × (a.1 ≡ found.now.hash)
+    ensures { MatchResult result
+        (λ a. IsEntryCopy K.is_clone V.is_clone (entry_at need_key found.now) a.0 × (a.1 ≡ found.now.hash)
         × Touches X.read moments.entry.now.policy.now found.now moments.entry.now.now.0 a.2.read.0 a.2.expires
-        a.2.is_renewed) }
+        a.2.is_renewed)
+        (λ _. ¬ (ClonesSucceed K.is_infallible V.is_infallible need_key found.now)) }
 {
     let Ok(value) = found.value().clone() else {
         return Err(OutOfMemory);

@@ -1,6 +1,6 @@
 //! Laws of a cache in segments. The contract of each function is a law, and its body does nothing.
 ghost use Rattle.moka_records.specs.Hashing.{key_hash};
-ghost use Rattle.moka_calls.specs.Laws.{KeepsPromises, MadeRunsAgeOut, anytime};
+ghost use Rattle.moka_calls.specs.Laws.{KeepsPromises, MadeRunsAgeOut, RunsAgeOutInTime, anytime};
 ghost use Rattle.moka_calls.specs.Limits.{KeepsLimits};
 ghost use Rattle.moka_calls.specs.Synchronous.{meaning_of};
 ghost use Rattle.moka_segments.specs.Built.{SharesSum};
@@ -188,6 +188,8 @@ pub fn own_calls_run<
     ensures promises { KeepsPromises S (anytime (for_all_calls K.is_clone V.is_clone
         (meaning_of K.eq L.tells P.says W.weighs C.reads X.created X.read X.updated))) }
     ensures ages_out { MadeRunsAgeOut S (anytime (for_all_calls K.is_clone V.is_clone
+        (meaning_of K.eq L.tells P.says W.weighs C.reads X.created X.read X.updated))) }
+    ensures ages_out_in_time { RunsAgeOutInTime S (anytime (for_all_calls K.is_clone V.is_clone
         (meaning_of K.eq L.tells P.says W.weighs C.reads X.created X.read X.updated))) }
     ensures limits { KeepsLimits S (anytime (for_all_calls K.is_clone V.is_clone
         (meaning_of K.eq L.tells P.says W.weighs C.reads X.created X.read X.updated))) }

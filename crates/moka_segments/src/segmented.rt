@@ -1,12 +1,13 @@
 //! The segmented cache, and its calls by key. moka: `sync::segment`.
-ghost use Rattle.std.specs.Prelude.{◌≡◌, ◌<◌, false, length, IfErr, option_map};
+ghost use Rattle.std.specs.Prelude.{◌≡◌, ◌<◌, false, length, IfErr, IsOk, option_map};
 ghost use Rattle.moka_parts.specs.Calls.{ContainsStep};
 ghost use Rattle.moka_records.specs.Hashing.{key_hash};
 ghost use Rattle.moka_records.specs.Records.{record_of_key};
 ghost use Rattle.moka_calls.specs.Synchronous.{meaning_of, removed, invalidated, taken_out};
+ghost use Rattle.moka_engine.specs.Looks.{CanHandOutValue};
 ghost use Rattle.moka_router.specs.Routing.{segment_of};
 ghost use Rattle.moka_segments.specs.Segmented.{Holds, HoldsIfThere, IsAt, Steps as StepsIn};
-ghost use Rattle.moka_cache.specs.Keyed.{Inserts, Gets, Removes, GetsWith, GetsWithIfMade, GetsWithIfNoError};
+ghost use Rattle.moka_cache.specs.Keyed.{CanNotify, Inserts, Gets, IsOfInsert, Removes, GetsWith, GetsWithIfMade, GetsWithIfNoError};
 
 use moka_cache::{Cache, GetWithRefused, NotTold};
 use moka_engine::config::DefaultHasher;
@@ -212,12 +213,16 @@ impl<
         K: Clone + Drop,
         V: Clone + Drop,
         P: Drop,
-        ensures { StepsIn (segment_of self.old.routing.count
+        ensures step { StepsIn (segment_of self.old.routing.count
             (key_hash S.BuildHasher S.Hasher.Hasher self.old.routing.hasher (K.hash_input key.now)))
             (Gets (meaning_of K.eq L.tells P.says W.weighs C.reads X.created X.read X.updated)
             (λ h k. key_hash S.BuildHasher S.Hasher.Hasher h (K.hash_input k)) key.now now clock.old
             clock.new V.is_clone result)
             self.old self.new }
+        ensures succeeds { StepsIn (segment_of self.old.routing.count
+            (key_hash S.BuildHasher S.Hasher.Hasher self.old.routing.hasher (K.hash_input key.now)))
+            (λ old new. CanHandOutValue V.is_infallible (record_of_key K.eq old.engine.state.records key.now)
+            → IsOk result) self.old self.new }
     {
         self.own_segment(key).get(key, now, clock)
     }
@@ -243,6 +248,10 @@ impl<
             (λ h k. key_hash S.BuildHasher S.Hasher.Hasher h (K.hash_input k)) key.now now clock.old clock.new
             K.is_clone V.is_clone (λ taken. result ≡ removed taken))
             self.old self.new }
+        ensures succeeds { StepsIn (segment_of self.old.routing.count
+            (key_hash S.BuildHasher S.Hasher.Hasher self.old.routing.hasher (K.hash_input key.now)))
+            (λ old new. CanNotify K.is_infallible V.is_infallible old.engine.state.settings.listening
+            (record_of_key K.eq old.engine.state.records key.now) → IsOk result) self.old self.new }
         ensures value { StepsIn (segment_of self.old.routing.count
             (key_hash S.BuildHasher S.Hasher.Hasher self.old.routing.hasher (K.hash_input key.now)))
             (λ old new. taken_out result
@@ -266,12 +275,16 @@ impl<
         K: Clone + Drop,
         V: Clone + Drop,
         P: Drop,
-        ensures { StepsIn (segment_of self.old.routing.count
+        ensures step { StepsIn (segment_of self.old.routing.count
             (key_hash S.BuildHasher S.Hasher.Hasher self.old.routing.hasher (K.hash_input key.now)))
             (Removes (meaning_of K.eq L.tells P.says W.weighs C.reads X.created X.read X.updated)
             (λ h k. key_hash S.BuildHasher S.Hasher.Hasher h (K.hash_input k)) key.now now clock.old clock.new
             K.is_clone V.is_clone (λ taken. result ≡ invalidated taken))
             self.old self.new }
+        ensures succeeds { StepsIn (segment_of self.old.routing.count
+            (key_hash S.BuildHasher S.Hasher.Hasher self.old.routing.hasher (K.hash_input key.now)))
+            (λ old new. CanNotify K.is_infallible V.is_infallible old.engine.state.settings.listening
+            (record_of_key K.eq old.engine.state.records key.now) → IsOk result) self.old self.new }
     {
         self.own_segment(key).invalidate(key, now, clock)
     }
@@ -295,12 +308,16 @@ impl<
         requires callable { HoldsIfThere (segment_of self.old.routing.count
             (key_hash S.BuildHasher S.Hasher.Hasher self.old.routing.hasher (K.hash_input key)))
             (λ s. ContainsStep P.says K.eq s.engine.state key now.0 false → F.pre init) self.old.segments }
-        ensures { StepsIn (segment_of self.old.routing.count
+        ensures step { StepsIn (segment_of self.old.routing.count
             (key_hash S.BuildHasher S.Hasher.Hasher self.old.routing.hasher (K.hash_input key)))
             (GetsWith (meaning_of K.eq L.tells P.says W.weighs C.reads X.created X.read X.updated)
             (λ h k. key_hash S.BuildHasher S.Hasher.Hasher h (K.hash_input k)) key now clock.old clock.new
             V.is_clone (F.post init) result)
             self.old self.new }
+        ensures looks_up { StepsIn (segment_of self.old.routing.count
+            (key_hash S.BuildHasher S.Hasher.Hasher self.old.routing.hasher (K.hash_input key)))
+            (λ old new. CanHandOutValue V.is_infallible (record_of_key K.eq old.engine.state.records key)
+            → IfErr result IsOfInsert) self.old self.new }
     {
         self.own_segment(&key).get_with(key, init, now, clock)
     }
@@ -323,12 +340,16 @@ impl<
         requires callable { HoldsIfThere (segment_of self.old.routing.count
             (key_hash S.BuildHasher S.Hasher.Hasher self.old.routing.hasher (K.hash_input key)))
             (λ s. ContainsStep P.says K.eq s.engine.state key now.0 false → F.pre init) self.old.segments }
-        ensures { StepsIn (segment_of self.old.routing.count
+        ensures step { StepsIn (segment_of self.old.routing.count
             (key_hash S.BuildHasher S.Hasher.Hasher self.old.routing.hasher (K.hash_input key)))
             (GetsWithIfMade (meaning_of K.eq L.tells P.says W.weighs C.reads X.created X.read X.updated)
             (λ h k. key_hash S.BuildHasher S.Hasher.Hasher h (K.hash_input k)) key now clock.old clock.new
             V.is_clone (F.post init) result)
             self.old self.new }
+        ensures looks_up { StepsIn (segment_of self.old.routing.count
+            (key_hash S.BuildHasher S.Hasher.Hasher self.old.routing.hasher (K.hash_input key)))
+            (λ old new. CanHandOutValue V.is_infallible (record_of_key K.eq old.engine.state.records key)
+            → IfErr result IsOfInsert) self.old self.new }
     {
         self.own_segment(&key)
             .optionally_get_with(key, init, now, clock)
@@ -352,12 +373,16 @@ impl<
         requires callable { HoldsIfThere (segment_of self.old.routing.count
             (key_hash S.BuildHasher S.Hasher.Hasher self.old.routing.hasher (K.hash_input key)))
             (λ s. ContainsStep P.says K.eq s.engine.state key now.0 false → F.pre init) self.old.segments }
-        ensures { StepsIn (segment_of self.old.routing.count
+        ensures step { StepsIn (segment_of self.old.routing.count
             (key_hash S.BuildHasher S.Hasher.Hasher self.old.routing.hasher (K.hash_input key)))
             (GetsWithIfNoError (meaning_of K.eq L.tells P.says W.weighs C.reads X.created X.read X.updated)
             (λ h k. key_hash S.BuildHasher S.Hasher.Hasher h (K.hash_input k)) key now clock.old clock.new
             V.is_clone (F.post init) result)
             self.old self.new }
+        ensures looks_up { StepsIn (segment_of self.old.routing.count
+            (key_hash S.BuildHasher S.Hasher.Hasher self.old.routing.hasher (K.hash_input key)))
+            (λ old new. CanHandOutValue V.is_infallible (record_of_key K.eq old.engine.state.records key)
+            → IfErr result IsOfInsert) self.old self.new }
     {
         self.own_segment(&key).try_get_with(key, init, now, clock)
     }

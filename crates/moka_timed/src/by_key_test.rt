@@ -1,5 +1,5 @@
 //! Look-ups and removals by a test of the key in place of a key.
-ghost use Rattle.std.specs.Prelude.{◌≡◌, true, Option, Some, None, Result, IfOk, IfSome, OnErr, option_map};
+ghost use Rattle.std.specs.Prelude.{◌≡◌, true, Option, Some, None, Result, IfOk, IfSome, IsOk, OnErr, option_map};
 ghost use Rattle.moka_parts.specs.Calls.{ContainsStep};
 ghost use Rattle.moka_parts.specs.KeyTests.{ContainsByStep};
 ghost use Rattle.moka_records.specs.KeyTests.{record_by};
@@ -8,7 +8,8 @@ ghost use Rattle.moka_types.specs.declared.error.OutOfMemory.{OutOfMemory};
 ghost use Rattle.moka_records.specs.declared.records.Record.{Record};
 ghost use Rattle.moka_parts.specs.Counters.{after_look_up};
 ghost use Rattle.moka_records.specs.Hashing.{key_hash};
-ghost use Rattle.moka_cache.specs.Keyed.{GetsBy, RemovesBy};
+ghost use Rattle.moka_engine.specs.Looks.{CanHandOutValue};
+ghost use Rattle.moka_cache.specs.Keyed.{CanNotify, GetsBy, RemovesBy};
 ghost use Rattle.moka_timed.specs.Moments.{AtItsMoment, AtItsOnlyMoment};
 ghost use Rattle.moka_calls.specs.Synchronous.{invalidated, meaning_of, removed, taken_out};
 
@@ -70,6 +71,8 @@ impl<
         ensures value { IfOk result (λ found. IfSome found (λ v. (r : Record K V)
             × (record_by (T.passes test.now) self.old.cache.engine.state.records ≡ Some r)
             × V.is_clone r.value v)) }
+        ensures succeeds { CanHandOutValue V.is_infallible
+            (record_by (T.passes test.now) self.old.cache.engine.state.records) → IsOk result }
         ensures unchanged { OnErr result (self.new.cache.engine.state ≡ self.old.cache.engine.state) }
         ensures hasher { self.new.cache.engine.hasher ≡ self.old.cache.engine.hasher }
         ensures counted { self.new.cache.stats ≡ after_look_up result self.old.cache.stats }
@@ -94,6 +97,8 @@ impl<
             RemovesBy (meaning_of K.eq L.tells P.says W.weighs C.reads X.created X.read X.updated)
             (T.passes test.now) hash now clock clock_after K.is_clone V.is_clone (λ taken. result ≡ removed taken)
             old new) }
+        ensures succeeds { CanNotify K.is_infallible V.is_infallible self.old.cache.engine.state.settings.listening
+            (record_by (T.passes test.now) self.old.cache.engine.state.records) → IsOk result }
         ensures gone { (key : K) → T.passes test.now key ≡ true
             → record_of_key K.eq self.new.cache.engine.state.records key ≡ None }
         ensures value { (key : K) → T.passes test.now key ≡ true → taken_out result
@@ -121,6 +126,8 @@ impl<
             RemovesBy (meaning_of K.eq L.tells P.says W.weighs C.reads X.created X.read X.updated)
             (T.passes test.now) hash now clock clock_after K.is_clone V.is_clone (λ taken. result ≡ invalidated taken)
             old new) }
+        ensures succeeds { CanNotify K.is_infallible V.is_infallible self.old.cache.engine.state.settings.listening
+            (record_by (T.passes test.now) self.old.cache.engine.state.records) → IsOk result }
         ensures gone { (key : K) → T.passes test.now key ≡ true
             → record_of_key K.eq self.new.cache.engine.state.records key ≡ None }
         ensures hasher { self.new.cache.engine.hasher ≡ self.old.cache.engine.hasher }

@@ -1,5 +1,5 @@
 //! A synchronous cache that owns its clock.
-ghost use Rattle.std.specs.Prelude.{◌≡◌, ◌≤◌, false, Option, Some, None, Result, IfOk, IfErr, OnErr, option_copied, unwrap_or, IfSome, option_map};
+ghost use Rattle.std.specs.Prelude.{◌≡◌, ◌≤◌, false, Option, Some, None, Result, IfOk, IfErr, IsOk, OnErr, option_copied, unwrap_or, IfSome, option_map};
 ghost use Rattle.moka_parts.specs.Calls.{CapacityStep, ContainsStep, InvalidateStep, no_events, only_ids};
 ghost use Rattle.moka_parts.specs.Exact.{IsExact, IsWithin};
 ghost use Rattle.moka_records.specs.Records.{record_of_key};
@@ -12,9 +12,10 @@ ghost use Rattle.moka_types.specs.declared.error.OutOfMemory.{OutOfMemory};
 ghost use Rattle.moka_records.specs.declared.instant.Instant.{Instant};
 ghost use Rattle.moka_records.specs.declared.records.Record.{Record};
 ghost use Rattle.moka_engine.specs.Config.{new_engine};
+ghost use Rattle.moka_engine.specs.Looks.{CanHandOutValue};
 ghost use Rattle.moka_parts.specs.Counters.{after_look_up};
 ghost use Rattle.moka_records.specs.Hashing.{key_hash};
-ghost use Rattle.moka_cache.specs.Keyed.{Gets, Inserts, Removes};
+ghost use Rattle.moka_cache.specs.Keyed.{CanNotify, Gets, Inserts, IsOfInsert, Removes};
 ghost use Rattle.moka_cache.specs.Saved.{HasOnlyMembers};
 ghost use Rattle.moka_timed.specs.Moments.{AtItsMoment, AtItsOnlyMoment, AtAnyMoment};
 ghost use Rattle.moka_calls.specs.Synchronous.{fresh, Makes, meaning_of, Just, own_run, removed, invalidated, taken_out, GetsWith, GetsWithIfMade, GetsWithIfNoError};
@@ -177,6 +178,8 @@ impl<
             result old new) }
         ensures value { IfOk result (λ found. IfSome found (λ v. (r : Record K V)
             × (record_of_key K.eq self.old.cache.engine.state.records key.now ≡ Some r) × V.is_clone r.value v)) }
+        ensures succeeds { CanHandOutValue V.is_infallible
+            (record_of_key K.eq self.old.cache.engine.state.records key.now) → IsOk result }
         ensures unchanged { OnErr result (self.new.cache.engine.state ≡ self.old.cache.engine.state) }
         ensures counted { self.new.cache.stats ≡ after_look_up result self.old.cache.stats }
     {
@@ -197,6 +200,8 @@ impl<
             Removes (meaning_of K.eq L.tells P.says W.weighs C.reads X.created X.read X.updated)
             (λ h k. key_hash S.BuildHasher S.Hasher.Hasher h (K.hash_input k)) key.now now clock clock_after K.is_clone
             V.is_clone (λ taken. result ≡ removed taken) old new) }
+        ensures succeeds { CanNotify K.is_infallible V.is_infallible self.old.cache.engine.state.settings.listening
+            (record_of_key K.eq self.old.cache.engine.state.records key.now) → IsOk result }
         ensures gone { record_of_key K.eq self.new.cache.engine.state.records key.now ≡ None }
         ensures value { taken_out result
             ≡ option_map (λ r. r.value) (record_of_key K.eq self.old.cache.engine.state.records key.now) }
@@ -219,6 +224,8 @@ impl<
             Removes (meaning_of K.eq L.tells P.says W.weighs C.reads X.created X.read X.updated)
             (λ h k. key_hash S.BuildHasher S.Hasher.Hasher h (K.hash_input k)) key.now now clock clock_after K.is_clone
             V.is_clone (λ taken. result ≡ invalidated taken) old new) }
+        ensures succeeds { CanNotify K.is_infallible V.is_infallible self.old.cache.engine.state.settings.listening
+            (record_of_key K.eq self.old.cache.engine.state.records key.now) → IsOk result }
         ensures gone { record_of_key K.eq self.new.cache.engine.state.records key.now ≡ None }
         ensures counted { self.new.cache.stats ≡ self.old.cache.stats }
     {
@@ -239,10 +246,12 @@ impl<
         P: Drop,
         requires callable { AtAnyMoment C.reads self.old.clock (λ now.
             ContainsStep P.says K.eq self.old.cache.engine.state key now.0 false → F.pre init) }
-        ensures { AtItsMoment C.reads self.old self.new (λ now old clock new clock_after.
+        ensures made { AtItsMoment C.reads self.old self.new (λ now old clock new clock_after.
             GetsWith (meaning_of K.eq L.tells P.says W.weighs C.reads X.created X.read X.updated)
             V.is_clone key (key_hash S.BuildHasher S.Hasher.Hasher old.engine.hasher (K.hash_input key)) now
             old clock new clock_after (F.post init) result) }
+        ensures looks_up { CanHandOutValue V.is_infallible
+            (record_of_key K.eq self.old.cache.engine.state.records key) → IfErr result IsOfInsert }
     {
         let now = self.clock.now();
         self.cache.get_with(key, init, now, &mut self.clock)
@@ -263,10 +272,12 @@ impl<
         P: Drop,
         requires callable { AtAnyMoment C.reads self.old.clock (λ now.
             ContainsStep P.says K.eq self.old.cache.engine.state key now.0 false → F.pre init) }
-        ensures { AtItsMoment C.reads self.old self.new (λ now old clock new clock_after.
+        ensures made { AtItsMoment C.reads self.old self.new (λ now old clock new clock_after.
             GetsWithIfMade (meaning_of K.eq L.tells P.says W.weighs C.reads X.created X.read X.updated)
             V.is_clone key (key_hash S.BuildHasher S.Hasher.Hasher old.engine.hasher (K.hash_input key)) now
             old clock new clock_after (F.post init) result) }
+        ensures looks_up { CanHandOutValue V.is_infallible
+            (record_of_key K.eq self.old.cache.engine.state.records key) → IfErr result IsOfInsert }
     {
         let now = self.clock.now();
         self.cache
@@ -288,10 +299,12 @@ impl<
         P: Drop,
         requires callable { AtAnyMoment C.reads self.old.clock (λ now.
             ContainsStep P.says K.eq self.old.cache.engine.state key now.0 false → F.pre init) }
-        ensures { AtItsMoment C.reads self.old self.new (λ now old clock new clock_after.
+        ensures made { AtItsMoment C.reads self.old self.new (λ now old clock new clock_after.
             GetsWithIfNoError (meaning_of K.eq L.tells P.says W.weighs C.reads X.created X.read X.updated)
             V.is_clone key (key_hash S.BuildHasher S.Hasher.Hasher old.engine.hasher (K.hash_input key)) now
             old clock new clock_after (F.post init) result) }
+        ensures looks_up { CanHandOutValue V.is_infallible
+            (record_of_key K.eq self.old.cache.engine.state.records key) → IfErr result IsOfInsert }
     {
         let now = self.clock.now();
         self.cache.try_get_with(key, init, now, &mut self.clock)

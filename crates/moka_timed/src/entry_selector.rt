@@ -1,11 +1,14 @@
 //! Entry calls of the cache that owns its clock, at the moment that it reads at the start of each.
-ghost use Rattle.std.specs.Prelude.{◌≡◌, false, Option, Result, option_copied};
+ghost use Rattle.std.specs.Prelude.{◌≡◌, false, IfErr, Option, Result, option_copied};
 ghost use Rattle.moka_parts.specs.Calls.{ContainsStep};
 ghost use Rattle.moka_types.specs.declared.error.InsertRefused.{InsertRefused};
 ghost use Rattle.moka_calls.specs.Computing.{AndUpserts, AndComputes};
 ghost use Rattle.moka_calls.specs.Entries.{OrInserts, OrInsertsMade, OrInsertsIfMade, OrInsertsIfNoError};
 ghost use Rattle.moka_calls.specs.Given.{Sees};
 ghost use Rattle.moka_records.specs.Hashing.{key_hash};
+ghost use Rattle.moka_records.specs.Records.{record_of_key};
+ghost use Rattle.moka_engine.specs.Looks.{CanHandOutValue};
+ghost use Rattle.moka_cache.specs.Keyed.{IsOfChange, IsOfInsert};
 ghost use Rattle.moka_timed.specs.Moments.{AtItsMoment, AtAnyMoment};
 ghost use Rattle.moka_calls.specs.Synchronous.{meaning_of, hears_clones};
 
@@ -67,7 +70,7 @@ impl<
         K: Clone + Drop,
         V: Clone + Drop,
         P: Drop,
-        ensures { AtItsMoment C.reads self.entry.cache.now self.exit.0.now (λ now old clock new clock_after.
+        ensures made { AtItsMoment C.reads self.entry.cache.now self.exit.0.now (λ now old clock new clock_after.
             OrInserts (meaning_of K.eq L.tells P.says W.weighs C.reads X.created X.read X.updated)
             K.is_clone V.is_clone self.entry.key
             (key_hash S.BuildHasher S.Hasher.Hasher old.engine.hasher (K.hash_input self.entry.key)) now
@@ -92,11 +95,13 @@ impl<
         P: Drop,
         requires callable { AtAnyMoment C.reads self.cache.now.clock (λ now.
             ContainsStep P.says K.eq self.cache.now.cache.engine.state self.key now.0 false → F.pre init) }
-        ensures { AtItsMoment C.reads self.entry.cache.now self.exit.0.now (λ now old clock new clock_after.
+        ensures made { AtItsMoment C.reads self.entry.cache.now self.exit.0.now (λ now old clock new clock_after.
             OrInsertsMade (meaning_of K.eq L.tells P.says W.weighs C.reads X.created X.read X.updated)
             K.is_clone V.is_clone self.entry.key
             (key_hash S.BuildHasher S.Hasher.Hasher old.engine.hasher (K.hash_input self.entry.key)) now
             old clock new clock_after (F.post init) result) }
+        ensures looks_up { CanHandOutValue V.is_infallible (record_of_key K.eq
+            self.entry.cache.now.cache.engine.state.records self.entry.key) → IfErr result IsOfInsert }
     {
         let TimedEntrySelector { cache: timed, key } = self;
         let now = timed.clock.now();
@@ -119,11 +124,13 @@ impl<
         P: Drop,
         requires callable { AtAnyMoment C.reads self.cache.now.clock (λ now.
             ContainsStep P.says K.eq self.cache.now.cache.engine.state self.key now.0 false → F.pre init) }
-        ensures { AtItsMoment C.reads self.entry.cache.now self.exit.0.now (λ now old clock new clock_after.
+        ensures made { AtItsMoment C.reads self.entry.cache.now self.exit.0.now (λ now old clock new clock_after.
             OrInsertsIfMade (meaning_of K.eq L.tells P.says W.weighs C.reads X.created X.read X.updated)
             K.is_clone V.is_clone self.entry.key
             (key_hash S.BuildHasher S.Hasher.Hasher old.engine.hasher (K.hash_input self.entry.key)) now
             old clock new clock_after (F.post init) result) }
+        ensures looks_up { CanHandOutValue V.is_infallible (record_of_key K.eq
+            self.entry.cache.now.cache.engine.state.records self.entry.key) → IfErr result IsOfInsert }
     {
         let TimedEntrySelector { cache: timed, key } = self;
         let now = timed.clock.now();
@@ -146,11 +153,13 @@ impl<
         P: Drop,
         requires callable { AtAnyMoment C.reads self.cache.now.clock (λ now.
             ContainsStep P.says K.eq self.cache.now.cache.engine.state self.key now.0 false → F.pre init) }
-        ensures { AtItsMoment C.reads self.entry.cache.now self.exit.0.now (λ now old clock new clock_after.
+        ensures made { AtItsMoment C.reads self.entry.cache.now self.exit.0.now (λ now old clock new clock_after.
             OrInsertsIfNoError (meaning_of K.eq L.tells P.says W.weighs C.reads X.created X.read X.updated)
             K.is_clone V.is_clone self.entry.key
             (key_hash S.BuildHasher S.Hasher.Hasher old.engine.hasher (K.hash_input self.entry.key)) now
             old clock new clock_after (F.post init) result) }
+        ensures looks_up { CanHandOutValue V.is_infallible (record_of_key K.eq
+            self.entry.cache.now.cache.engine.state.records self.entry.key) → IfErr result IsOfInsert }
     {
         let TimedEntrySelector { cache: timed, key } = self;
         let now = timed.clock.now();
@@ -173,11 +182,13 @@ impl<
         P: Drop,
         requires callable { AtAnyMoment C.reads self.cache.now.clock (λ now. (seen : Option V)
             → Sees K.eq P.says V.is_clone self.cache.now.cache.engine.state self.key now.0 seen → F.pre f seen) }
-        ensures { AtItsMoment C.reads self.entry.cache.now self.exit.0.now (λ now old clock new clock_after.
+        ensures made { AtItsMoment C.reads self.entry.cache.now self.exit.0.now (λ now old clock new clock_after.
             AndUpserts (meaning_of K.eq L.tells P.says W.weighs C.reads X.created X.read X.updated)
             K.is_clone V.is_clone self.entry.key
             (key_hash S.BuildHasher S.Hasher.Hasher old.engine.hasher (K.hash_input self.entry.key)) now
             old clock new clock_after (F.post f) result) }
+        ensures looks_up { CanHandOutValue V.is_infallible (record_of_key K.eq
+            self.entry.cache.now.cache.engine.state.records self.entry.key) → IfErr result IsOfInsert }
     {
         let TimedEntrySelector { cache: timed, key } = self;
         let now = timed.clock.now();
@@ -199,12 +210,14 @@ impl<
         requires callable { AtAnyMoment C.reads self.cache.now.clock (λ now. (seen : _)
             → Sees K.eq P.says V.is_clone self.cache.now.cache.engine.state self.key now.0 (option_copied seen)
             → F.pre f seen) }
-        ensures { AtItsMoment C.reads self.entry.cache.now self.exit.0.now (λ now old clock new clock_after.
+        ensures made { AtItsMoment C.reads self.entry.cache.now self.exit.0.now (λ now old clock new clock_after.
             AndComputes (meaning_of K.eq (hears_clones K.is_clone V.is_clone L.tells) P.says W.weighs C.reads
             X.created X.read X.updated)
             K.is_clone V.is_clone self.entry.key
             (key_hash S.BuildHasher S.Hasher.Hasher old.engine.hasher (K.hash_input self.entry.key)) now
             old clock new clock_after (λ seen op. (x : _) × (option_copied x ≡ seen) × F.post f x op) result) }
+        ensures looks_up { CanHandOutValue V.is_infallible (record_of_key K.eq
+            self.entry.cache.now.cache.engine.state.records self.entry.key) → IfErr result IsOfChange }
     {
         let TimedEntrySelector { cache: timed, key } = self;
         let now = timed.clock.now();

@@ -55,10 +55,10 @@ fn begins_two(sessions: &mut TestSessions) -> bool {
 // Whether the first session is used in time, the second is ended, and the first then ends by itself.
 fn ends_unused(sessions: &mut TestSessions) -> bool {
     sessions.clock.advance(Duration::from_nanos(99));
-    let is_used = touch(sessions, 1) == Ok(Some(10));
-    let is_ended = log_out(sessions, 2) == Some(20) && touch(sessions, 2) == Ok(None);
+    let is_used = touch(sessions, 1) == Some(10);
+    let is_ended = log_out(sessions, 2) == Some(20) && touch(sessions, 2).is_none();
     sessions.clock.advance(idle());
-    is_used && is_ended && touch(sessions, 1) == Ok(None)
+    is_used && is_ended && touch(sessions, 1).is_none()
 }
 
 fn finds_what_is_put(sessions: &mut TestSessions) -> bool {

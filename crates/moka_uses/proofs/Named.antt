@@ -1,11 +1,10 @@
 -- What a look-up by the text of a name finds.
-use Rattle.std.proofs.Common.{◌≡◌, ℕ, Bool, true, false, not, List, [], Option, Some, None, Result, Ok, Err, IfOk, inl, inr, ap, sym, subst}
+use Rattle.std.proofs.Common.{◌≡◌, ℕ, Bool, true, false, not, List, [], Option, Some, None, inl, inr, ap, sym, subst}
 use Rattle.std.specs.Prelude.{IfSome, String, find}
 use Rattle.std.specs.Cmp.Lexicographic.{bytes_decides}
 use Rattle.std.specs.FinMap.{values}
 use Rattle.std.specs.Str.{bytes_eq}
 use Rattle.std.specs.String.{string_bytes}
-use Rattle.moka_engine.specs.parts.OutOfMemory.{OutOfMemory}
 use Rattle.moka_engine.specs.parts.Record.{Record}
 use Rattle.moka_engine.specs.KeyTests.{record_by}
 use Rattle.moka_engine.specs.State.{State}
@@ -19,10 +18,9 @@ has_text name key = bytes_eq name (string_bytes key)
 
 module _ {Z V X P W : Type 0} (s : State (String Z) V X P W) (name : List ℕ) where
   -- the price is that of a record with the name
-  pub named : (result : Result (Option V) OutOfMemory) → IfOk result (λ found. IfSome found (λ v. (r : Record (String Z) V) × (record_by (has_text name) s.records ≡ Some r) × (v ≡ r.value))) → IfOk result (λ found. IfSome found (IsPriceOf s name))
-  named (Err e) h = tt
-  named (Ok None) h = tt
-  named (Ok (Some v)) (r, found, same) = (let at = record_of_key_found (λ (_ k : String Z). has_text name k) s.records r.key r found in (at.0, r, at.1, sym ((bytes_decides name (string_bytes r.key)).0 at.2), sym same))
+  pub named : (found : Option V) → IfSome found (λ v. (r : Record (String Z) V) × (record_by (has_text name) s.records ≡ Some r) × (v ≡ r.value)) → IfSome found (IsPriceOf s name)
+  named None h = tt
+  named (Some v) (r, found, same) = (let at = record_of_key_found (λ (_ k : String Z). has_text name k) s.records r.key r found in (at.0, r, at.1, sym ((bytes_decides name (string_bytes r.key)).0 at.2), sym same))
 
   seen : (says : P → String Z → V → Bool → Type 0) (now : ℕ) (o : Option (Record (String Z) V)) (found : Bool) → s.predicates ≡ [] → IsShown says s o now found → IsSeen s now o found
   seen says now None found none h = h

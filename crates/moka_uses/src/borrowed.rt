@@ -1,5 +1,5 @@
 //! Prices by names, looked up by a text that is no `String`: a look-up copies no name.
-ghost use Rattle.std.specs.Prelude.{◌≡◌, String, false, IfErr, IfOk, IfSome, OnErr, Some, is_some};
+ghost use Rattle.std.specs.Prelude.{◌≡◌, String, false, IfErr, IfOk, IfSome, Ok, OnErr, Some, is_some};
 ghost use Rattle.std.specs.Duration.{as_nanos};
 ghost use Rattle.std.specs.String.{string_bytes, string_eq};
 ghost use Rattle.moka_engine.specs.parts.Instant.{Instant};
@@ -52,19 +52,19 @@ pub fn set<C: Clock>(
     prices.insert(name, price)
 }
 
-/// The price of a name, if it is set and holds at the clock's moment.
-///
-/// # Errors
-/// `OutOfMemory`
-pub fn price<C: Clock>(prices: &mut Prices<C>, name: &str) -> Result<Option<u64>, OutOfMemory>
-    ensures value { IfOk result (λ found. IfSome found (IsPriceOf prices.old.cache.engine.state name.now)) }
+/// The price of a name, if it is set and holds at the clock's moment. Cloning a price takes no memory, so this is never
+/// refused.
+pub fn price<C: Clock>(prices: &mut Prices<C>, name: &str) -> Option<u64>
+    ensures value { IfSome result (IsPriceOf prices.old.cache.engine.state name.now) }
     ensures found { (now : Instant) × (read : C) × C.reads prices.old.clock now read
-        × IfOk result (λ found. IsFoundAt prices.old.cache.engine.state name.now now.0 (is_some found))
+        × IsFoundAt prices.old.cache.engine.state name.now now.0 (is_some result)
         × ((key : String _) → string_bytes key ≡ name.now
         → LooksUp (plain_meaning string_eq C.reads) key now prices.old.cache.engine read
-        prices.new.cache.engine prices.new.clock result) }
-    ensures unchanged { OnErr result (prices.new.cache.engine.state ≡ prices.old.cache.engine.state) }
+        prices.new.cache.engine prices.new.clock (Ok result)) }
 {
     let hash = prices.hash_of(&name);
-    prices.get_by(&name, hash)
+    match prices.get_by(&name, hash) {
+        Ok(found) => found,
+        Err(_) => unreachable!(),
+    }
 }

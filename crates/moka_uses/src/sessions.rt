@@ -1,5 +1,5 @@
 //! Sessions that end when they are not used.
-ghost use Rattle.std.specs.Prelude.{◌≡◌, ◌==◌, false, is_some, None, Some, IfErr, IfOk, IfSome, OnErr, option_map};
+ghost use Rattle.std.specs.Prelude.{◌≡◌, ◌==◌, false, is_some, None, Some, IfErr, IfOk, IfSome, Ok, OnErr, option_map};
 ghost use Rattle.std.specs.Duration.{as_nanos};
 ghost use Rattle.moka_engine.specs.parts.Instant.{Instant};
 ghost use Rattle.moka_engine.specs.Config.{default_config};
@@ -54,20 +54,18 @@ pub fn log_in<C: Clock>(
 }
 
 /// Uses the session of a user: its token, if it was used within the idle time before the clock's moment, and else
-/// `None`.
-///
-/// # Errors
-/// `OutOfMemory`
-pub fn touch<C: Clock>(sessions: &mut Sessions<C>, user: u64) -> Result<Option<u64>, OutOfMemory>
+/// `None`. Cloning a token takes no memory, so this is never refused.
+pub fn touch<C: Clock>(sessions: &mut Sessions<C>, user: u64) -> Option<u64>
     ensures found { (now : Instant) × (read : C) × C.reads sessions.old.clock now read
-        × IfOk result (λ token. IsFoundWithin sessions.old.cache.engine.state user now.0 (is_some token))
+        × IsFoundWithin sessions.old.cache.engine.state user now.0 (is_some result)
         × LooksUp (plain_meaning (λ a b. a == b) C.reads) user now sessions.old.cache.engine read
-        sessions.new.cache.engine sessions.new.clock result }
-    ensures kept { IfOk result (λ token.
-        IfSome token (HasValue (λ a b. a == b) sessions.old.cache.engine.state user)) }
-    ensures unchanged { OnErr result (sessions.new.cache.engine.state ≡ sessions.old.cache.engine.state) }
+        sessions.new.cache.engine sessions.new.clock (Ok result) }
+    ensures kept { IfSome result (HasValue (λ a b. a == b) sessions.old.cache.engine.state user) }
 {
-    sessions.get(&user)
+    match sessions.get(&user) {
+        Ok(token) => token,
+        Err(_) => unreachable!(),
+    }
 }
 
 /// Ends the session of a user, and hands its token out, also if its time is over. The user has none then.

@@ -6,7 +6,7 @@ ghost use Rattle.moka_cache.specs.Visible.{ListsVisible};
 
 use anyhow::Result;
 use moka_cache::Cache;
-use moka_engine::{CacheConfig, Engine, Entry, EvictionPolicy, FixedClock, Instant};
+use moka_engine::{CacheConfig, Engine, Entry, EvictionPolicy, FixedClock, Instant, OutOfMemory};
 use std::alloc::Global;
 use std::vec::IntoIter;
 
@@ -38,10 +38,13 @@ pub fn put_and_get(
 ///
 /// # Errors
 /// `OutOfMemory`
-pub fn list(cache: &Cache<String, String>, now: Instant) -> Result<IntoIter<(String, String)>>
+pub fn list(
+    cache: &Cache<String, String>,
+    now: Instant,
+) -> Result<IntoIter<(String, String)>, OutOfMemory>
     ensures { IfOk result (λ found. ListsVisible (λ _ _ _ answer. answer ≡ false)
         (λ s t. string_bytes t ≡ string_bytes s) cache.now.engine.state now.0
         (λ s t. string_bytes t ≡ string_bytes s) (into_iter_items found)) }
 {
-    Ok(cache.iter(now)?)
+    cache.iter(now)
 }

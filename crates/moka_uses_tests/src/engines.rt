@@ -56,8 +56,8 @@ fn fills(cache: &mut Plain, keys: u64) -> bool {
 
 // Whether a key is found in both ways, and the next one in neither.
 fn finds_the_last(cache: &mut Plain, key: u64) -> bool {
-    ask_twice(cache, key, NOW) == Ok((true, true))
-        && ask_twice(cache, key.saturating_add(1), NOW) == Ok((false, false))
+    ask_twice(cache, key, NOW) == (true, true)
+        && ask_twice(cache, key.saturating_add(1), NOW) == (false, false)
 }
 
 // Whether a key is put in at a moment, and its operation sent.

@@ -1,12 +1,13 @@
 //! Look-ups and removals by a test of the key in place of a key.
-ghost use Rattle.std.specs.Prelude.{◌≡◌, [], true, Option, Some, None, Result, option_map};
+ghost use Rattle.std.specs.Prelude.{◌≡◌, [], true, Option, Some, None, Result, IfSome, IsOk, option_map};
 ghost use Rattle.moka_parts.specs.Calls.{ContainsStep};
 ghost use Rattle.moka_parts.specs.KeyTests.{ContainsByStep};
 ghost use Rattle.moka_records.specs.KeyTests.{record_by};
 ghost use Rattle.moka_records.specs.Records.{record_of_key};
 ghost use Rattle.moka_types.specs.declared.error.OutOfMemory.{OutOfMemory};
 ghost use Rattle.moka_records.specs.Hashing.{key_hash};
-ghost use Rattle.moka_cache.specs.Keyed.{GetsBy, RemovesBy};
+ghost use Rattle.moka_engine.specs.Looks.{CanHandOutValue};
+ghost use Rattle.moka_cache.specs.Keyed.{CanNotify, GetsBy, RemovesBy};
 ghost use Rattle.moka_calls.specs.Synchronous.{Made, Makes, RemovesEntry, hears_clones, invalidated, meaning_of, removed, taken_out};
 
 use super::Cache;
@@ -72,8 +73,10 @@ impl<
         P: Drop,
         requires own { (k : K) → T.passes test.now k ≡ true
             → hash ≡ key_hash S.BuildHasher S.Hasher.Hasher self.old.engine.hasher (K.hash_input k) }
-        ensures { GetsBy (meaning_of K.eq L.tells P.says W.weighs C.reads X.created X.read X.updated)
+        ensures step { GetsBy (meaning_of K.eq L.tells P.says W.weighs C.reads X.created X.read X.updated)
             (T.passes test.now) hash now clock.old clock.new V.is_clone result self.old self.new }
+        ensures succeeds { CanHandOutValue V.is_infallible (record_by (T.passes test.now) self.old.engine.state.records)
+            → IsOk result }
     {
         self.engine.invariant_holds();
         let entry = self.engine.get_by(test, hash, false, now, clock);
@@ -103,6 +106,8 @@ impl<
         ensures step { RemovesBy (meaning_of K.eq L.tells P.says W.weighs C.reads X.created X.read X.updated)
             (T.passes test.now) hash now clock.old clock.new K.is_clone V.is_clone (λ taken. result ≡ removed taken)
             self.old self.new }
+        ensures succeeds { CanNotify K.is_infallible V.is_infallible self.old.engine.state.settings.listening
+            (record_by (T.passes test.now) self.old.engine.state.records) → IsOk result }
         ensures value { (key : K) → T.passes test.now key ≡ true → taken_out result
             ≡ option_map (λ r. r.value) (record_of_key K.eq self.old.engine.state.records key) }
     {
@@ -127,9 +132,11 @@ impl<
         P: Drop,
         requires own { (k : K) → T.passes test.now k ≡ true
             → hash ≡ key_hash S.BuildHasher S.Hasher.Hasher self.old.engine.hasher (K.hash_input k) }
-        ensures { RemovesBy (meaning_of K.eq L.tells P.says W.weighs C.reads X.created X.read X.updated)
+        ensures step { RemovesBy (meaning_of K.eq L.tells P.says W.weighs C.reads X.created X.read X.updated)
             (T.passes test.now) hash now clock.old clock.new K.is_clone V.is_clone (λ taken. result ≡ invalidated taken)
             self.old self.new }
+        ensures succeeds { CanNotify K.is_infallible V.is_infallible self.old.engine.state.settings.listening
+            (record_by (T.passes test.now) self.old.engine.state.records) → IsOk result }
     {
         invalidated(self.take_by(test, hash, now, clock))
     }
@@ -155,6 +162,8 @@ impl<
         ensures none { record_by (T.passes test.now) self.old.engine.state.records ≡ None → (result ≡ None)
             × Made (meaning_of K.eq L.tells P.says W.weighs C.reads X.created X.read X.updated) [] []
             self.old.engine clock.old self.new.engine clock.new }
+        ensures notified { CanNotify K.is_infallible V.is_infallible self.old.engine.state.settings.listening
+            (record_by (T.passes test.now) self.old.engine.state.records) → IfSome result (λ t. IsOk t.1) }
         ensures gone { (key : K) → T.passes test.now key ≡ true
             → record_of_key K.eq self.new.engine.state.records key ≡ None }
         ensures value { (key : K) → T.passes test.now key ≡ true → option_map (λ t. t.0) result

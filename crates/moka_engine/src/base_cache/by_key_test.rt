@@ -1,5 +1,5 @@
 //! Look-ups and removals by a test of the key in place of a key.
-ghost use Rattle.std.specs.Prelude.{◌≡◌, Some, length, true, option_map};
+ghost use Rattle.std.specs.Prelude.{◌≡◌, IsOk, Some, length, true, option_map};
 ghost use Rattle.moka_records.specs.Hashing.{key_hash};
 ghost use Rattle.moka_parts.specs.Calls.{RecordsRead, no_events};
 ghost use Rattle.moka_parts.specs.Copies.{HandsOut, IsEntryCopy};
@@ -10,6 +10,7 @@ ghost use Rattle.moka_parts.specs.Runs.{Befalls};
 ghost use Rattle.moka_parts.specs.Surroundings.{Leads};
 ghost use Rattle.moka_records.specs.declared.records.ReadOperation.TheVariants as operation;
 ghost use Rattle.moka_store.specs.Hashing.{IsIndexHash};
+ghost use Rattle.moka_engine.specs.Looks.{CanHandOut};
 ghost use Rattle.moka_engine.specs.Makes.{Takes};
 
 use super::BaseCache;
@@ -89,10 +90,12 @@ impl<
         P: Drop,
         requires own { (k : K) → T.passes test.now k ≡ true
             → hash ≡ key_hash S.BuildHasher S.Hasher.Hasher self.old.hasher (K.hash_input k) }
-        ensures { HandsOut (IsEntryCopy K.is_clone V.is_clone)
+        ensures step { HandsOut (IsEntryCopy K.is_clone V.is_clone)
             (λ own. Takes P.says X.read L.tells
             (λ Runs s. GetByStep P.says (T.passes test.now) s X.read Runs hash need_key now.0 own)
             self.old self.new (λ e. Leads C.reads clock.old e.readings clock.new)) result }
+        ensures succeeds { CanHandOut K.is_infallible V.is_infallible need_key
+            (record_by (T.passes test.now) self.old.state.records) → IsOk result }
     {
         let own = IndexHash::of(hash);
         let sought = (test, Hashes { hash, own });

@@ -1,6 +1,6 @@
 //! Look-ups with a caller's test, and look-ups that record nothing.
 //! moka: `sync::base_cache::BaseCache`, `common::concurrent::ScanningGet`.
-ghost use Rattle.std.specs.Prelude.{◌≡◌, Bool, Some, true};
+ghost use Rattle.std.specs.Prelude.{◌≡◌, Bool, IsOk, Some, true};
 ghost use Rattle.moka_parts.specs.Calls.{GetStep, PeekStep, ScanStep, no_events};
 ghost use Rattle.moka_parts.specs.Closures.{CanAskIfGiven, test_given, test_left};
 ghost use Rattle.moka_parts.specs.Copies.{HandsOut, IsEntryCopy};
@@ -9,7 +9,7 @@ ghost use Rattle.moka_records.specs.Records.{record_of_key};
 ghost use Rattle.moka_parts.specs.Runs.{Befalls};
 ghost use Rattle.moka_parts.specs.Surroundings.{IsAskedOnce, Leads};
 ghost use Rattle.moka_store.specs.Hashing.{IsIndexHash};
-ghost use Rattle.moka_engine.specs.Looks.{LooksUp};
+ghost use Rattle.moka_engine.specs.Looks.{CanHandOut, CanHandOutValue, LooksUp};
 ghost use Rattle.moka_lookups.specs.Looks.{value_of};
 ghost use Rattle.moka_engine.specs.Makes.{Takes};
 
@@ -54,13 +54,15 @@ impl<
         V: Clone + Drop,
         P: Drop,
         requires askable { CanAskIfGiven I.can_ask (test_given ignore_if) }
-        ensures { (ignored : Bool)
+        ensures step { (ignored : Bool)
             × IsAskedOnce I.asks (test_given ignore_if.entry)
             (value_of (record_of_key K.eq self.old.state.records key.now)) ignored (test_left ignore_if.exit)
             × HandsOut (IsEntryCopy K.is_clone V.is_clone)
             (λ own. Takes P.says X.read L.tells
             (λ Runs s. GetStep P.says X.read Runs K.eq s key.now hash need_key ignored now.0 own)
             self.old self.new (λ e. Leads C.reads clock.old e.readings clock.new)) result }
+        ensures succeeds { CanHandOut K.is_infallible V.is_infallible need_key
+            (record_of_key K.eq self.old.state.records key.now) → IsOk result }
     {
         match ignore_if {
             Some(test) => {
@@ -89,7 +91,7 @@ impl<
         requires own { (k : K) → T.passes sought.0.now k ≡ true
             → IsIndexHash S.BuildHasher S.Hasher.Hasher self.old.hasher (K.hash_input k) sought.1.own }
         requires askable { (v : V) → I.can_ask ignore_if.old v }
-        ensures { (ignored : Bool)
+        ensures step { (ignored : Bool)
             × IsAskedOnce I.asks (Some ignore_if.old)
             (value_of (record_by (T.passes sought.entry.0.now) self.old.state.records)) ignored (Some ignore_if.new)
             × HandsOut (IsEntryCopy K.is_clone V.is_clone)
@@ -97,6 +99,8 @@ impl<
             (λ Runs s. LooksUp P.says X.read (record_by (T.passes sought.entry.0.now)) sought.entry.1.hash
             need_key ignored now.0 Runs s own)
             self.old self.new (λ e. Leads C.reads clock.old e.readings clock.new)) result }
+        ensures succeeds { CanHandOut K.is_infallible V.is_infallible need_key
+            (record_by (T.passes sought.entry.0.now) self.old.state.records) → IsOk result }
     {
         let (test, Hashes { hash: given, own }) = sought;
         let sought = (test, own);
@@ -141,12 +145,14 @@ impl<
     where
         V: Clone,
         requires askable { CanAskIfGiven I.can_ask (test_given ignore_if) }
-        ensures { (ignored : Bool)
+        ensures step { (ignored : Bool)
             × IsAskedOnce I.asks (test_given ignore_if.entry)
             (value_of (record_of_key K.eq self.old.state.records key.now)) ignored (test_left ignore_if.exit)
             × HandsOut V.is_clone
             (λ a. PeekStep P.says X.read K.eq self.old.state key.now ignored now.0 a self.new.state) result
             × Befalls L.tells no_events self.old self.new }
+        ensures succeeds { CanHandOutValue V.is_infallible (record_of_key K.eq self.old.state.records key.now)
+            → IsOk result }
     {
         match ignore_if {
             Some(test) => self.do_get_without_recording(key, test, now),
@@ -164,12 +170,14 @@ impl<
     where
         V: Clone,
         requires askable { (v : V) → I.can_ask test.old v }
-        ensures { (ignored : Bool)
+        ensures step { (ignored : Bool)
             × IsAskedOnce I.asks (Some test.old)
             (value_of (record_of_key K.eq self.old.state.records key.now)) ignored (Some test.new)
             × HandsOut V.is_clone
             (λ a. PeekStep P.says X.read K.eq self.old.state key.now ignored now.0 a self.new.state) result
             × Befalls L.tells no_events self.old self.new }
+        ensures succeeds { CanHandOutValue V.is_infallible (record_of_key K.eq self.old.state.records key.now)
+            → IsOk result }
     {
         let sought = (&SameKey(key), self.inner.index_hash(key));
         let looked = {
@@ -205,7 +213,9 @@ impl<
     pub fn scanning_get(&self, key: &K, now: Instant) -> Result<Option<V>, OutOfMemory>
     where
         V: Clone,
-        ensures { HandsOut V.is_clone (ScanStep P.says K.eq self.now.state key.now now.0) result }
+        ensures step { HandsOut V.is_clone (ScanStep P.says K.eq self.now.state key.now now.0) result }
+        ensures succeeds { CanHandOutValue V.is_infallible (record_of_key K.eq self.now.state.records key.now)
+            → IsOk result }
     {
         let moments = self.moments(now);
         let sought = (&SameKey(key), self.inner.index_hash(key));

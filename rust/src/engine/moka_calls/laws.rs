@@ -87,7 +87,8 @@ pub fn keeps_promises<
 
 /// From an empty cache that keeps the order of writing, since it has a time to live or supports predicates: if no
 /// insert is earlier than a write that is there, each whole run that begins with every operation sent leaves nothing
-/// past its time to live, and nothing written before the invalidation of all.
+/// past its time to live, and nothing written before the invalidation of all. The same holds if inserts come in the
+/// order of time, which the list of calls alone tells.
 pub fn ages_out<
     K: Eq,
     V,

@@ -27,6 +27,8 @@ use crate::support::hash::{BuildHasher, Hash};
 /// such a run also leaves no record past its time to live, and none written before the last invalidation of all. This
 /// applies to caches that have a time to live or support predicates.
 ///
+/// If clones of keys and values cannot fail, as those of numbers cannot, no look-up or notice is refused memory.
+///
 /// # Errors
 /// `OutOfMemory` if there is no room for the replies. The calls come back, and none was made. If a single call is
 /// refused, that is its reply, and the next follows.

@@ -20,9 +20,9 @@ fn sets_tea(alloc: Global, prices: &mut TestPrices) -> bool {
 
 // Whether a price is found by its name alone, until it holds no more.
 fn finds_tea(prices: &mut TestPrices) -> bool {
-    let is_found = price(prices, "tea") == Ok(Some(3)) && price(prices, "te") == Ok(None);
+    let is_found = price(prices, "tea") == Some(3) && price(prices, "te").is_none();
     prices.clock.advance(Duration::from_nanos(100));
-    is_found && price(prices, "tea") == Ok(None)
+    is_found && price(prices, "tea").is_none()
 }
 
 // Whether a price is there by a text, and is taken out by it.

@@ -45,7 +45,7 @@ fn restarted(
 
 // Whether the first session has ended, and the others go on.
 fn two_go_on(again: &mut TestSessions) -> bool {
-    touch(again, 1) == Ok(None) && touch(again, 2) == Ok(Some(2)) && touch(again, 3) == Ok(Some(3))
+    touch(again, 1).is_none() && touch(again, 2) == Some(2) && touch(again, 3) == Some(3)
 }
 
 /// Whether sessions that three users have go on after a restart, but for the first, which ends meanwhile.

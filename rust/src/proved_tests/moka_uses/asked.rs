@@ -3,23 +3,18 @@
 use crate::support::prelude::*;
 
 use crate::engine::moka_engine::laws::gets_what_is_contained;
-use crate::engine::moka_engine::{Engine, FixedClock, Instant, NoExpiry, NoPredicate, NoWeigher, OutOfMemory};
+use crate::engine::moka_engine::{Engine, FixedClock, Instant, NoExpiry, NoPredicate, NoWeigher};
 
 /// Asks whether a key is contained, and then gets its value: whether the one said so and whether the other found a
-/// value is the same (`gets_what_is_contained`).
-///
-/// # Errors
-/// `OutOfMemory` if memory for a clone of the value is refused; numbers take none. The cache is as it was.
-pub fn ask_twice(
-    cache: &mut Engine<u64, u64>,
-    key: u64,
-    now: Instant,
-) -> Result<(bool, bool), OutOfMemory>
+/// value is the same (`gets_what_is_contained`). Cloning a number takes no memory, so the get is not refused.
+pub fn ask_twice(cache: &mut Engine<u64, u64>, key: u64, now: Instant) -> (bool, bool)
 {
     gets_what_is_contained::<u64, u64, NoExpiry, NoPredicate, NoWeigher>();
     cache.invariant_holds();
     let hash = cache.hash(&key);
     let is_contained = cache.contains_key_with_hash(&key, hash, now);
-    let found = cache.get_with_hash(&key, hash, false, now, &mut FixedClock(now))?;
-    Ok((is_contained, found.is_some()))
+    match cache.get_with_hash(&key, hash, false, now, &mut FixedClock(now)) {
+        Ok(found) => (is_contained, found.is_some()),
+        Err(_) => unreachable!(),
+    }
 }

@@ -36,12 +36,13 @@ pub fn set<C: Clock>(
     prices.insert(name, price)
 }
 
-/// The price of a name, if it is set and holds at the clock's moment.
-///
-/// # Errors
-/// `OutOfMemory`
-pub fn price<C: Clock>(prices: &mut Prices<C>, name: &str) -> Result<Option<u64>, OutOfMemory>
+/// The price of a name, if it is set and holds at the clock's moment. Cloning a price takes no memory, so this is never
+/// refused.
+pub fn price<C: Clock>(prices: &mut Prices<C>, name: &str) -> Option<u64>
 {
     let hash = prices.hash_of(&name);
-    prices.get_by(&name, hash)
+    match prices.get_by(&name, hash) {
+        Ok(found) => found,
+        Err(_) => unreachable!(),
+    }
 }

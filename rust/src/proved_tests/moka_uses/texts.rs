@@ -4,7 +4,7 @@ use crate::support::prelude::*;
 
 use crate::support::anyhow::Result;
 use crate::engine::moka_cache::Cache;
-use crate::engine::moka_engine::{CacheConfig, Engine, Entry, EvictionPolicy, FixedClock, Instant};
+use crate::engine::moka_engine::{CacheConfig, Engine, Entry, EvictionPolicy, FixedClock, Instant, OutOfMemory};
 use crate::support::alloc::Global;
 use std::vec::IntoIter;
 
@@ -33,7 +33,10 @@ pub fn put_and_get(
 ///
 /// # Errors
 /// `OutOfMemory`
-pub fn list(cache: &Cache<String, String>, now: Instant) -> Result<IntoIter<(String, String)>>
+pub fn list(
+    cache: &Cache<String, String>,
+    now: Instant,
+) -> Result<IntoIter<(String, String)>, OutOfMemory>
 {
-    Ok(cache.iter(now)?)
+    cache.iter(now)
 }

@@ -1,7 +1,7 @@
 use Rattle.moka_calls.specs.Synchronous.{meaning_of}
 use Rattle.moka_calls.specs.Laws.{anytime}
 use Rattle.moka_calls.proofs.Limits.{keeps_limits}
-use Rattle.moka_calls.proofs.Lists.{ages_out, keeps_promises}
+use Rattle.moka_calls.proofs.Lists.{ages_out, ages_out_in_time, keeps_promises}
 use Rattle.moka_segment_laws.specs.Moves.{for_all_calls}
 use Rattle.moka_segment_laws.proofs.Apart.{each_runs, each_moves_alone}
 use Rattle.moka_segment_laws.proofs.Moving.{moves_go_on}
@@ -16,5 +16,6 @@ returns g c =
       go_on = moves_go_on m;
       promises = keeps_promises g.row.S.Denot (anytime m) g.met.K.Eq.laws;
       ages_out = ages_out g.row.S.Denot (anytime m) g.met.K.Eq.laws;
+      ages_out_in_time = ages_out_in_time g.row.S.Denot (anytime m) g.met.K.Eq.laws;
       limits = keeps_limits (anytime m) g.row.S.Denot;
     }

@@ -1,4 +1,4 @@
-use Rattle.std.proofs.Common.{◌≡◌, ◌==◌, refl, Option, Some, None, Result, Ok, is_some, ap, sym, ◌∙◌, false, subst}
+use Rattle.std.proofs.Common.{◌≡◌, ◌==◌, refl, Option, Some, None, Result, Ok, is_some, ap, sym, ◌∙◌, false, subst, true≢false}
 use Rattle.moka_engine.specs.parts.Entry.{Entry}
 use Rattle.moka_engine.specs.parts.OutOfMemory.{OutOfMemory}
 use Rattle.moka_engine.specs.parts.Call.TheVariants as call
@@ -19,13 +19,16 @@ found_some None = refl
 
 pub returns-clause-got : goal.returns-clause-got
 returns-clause-got c =
-    let (own, made, copied) = c.in_ok-found.ensures in
-    (c.hash-hash.result, c.in_ok-found.found, c.is_some.ensures, subst (λ a. IsOneCall (engine_meaning (λ a b. a == b)) c.args.cache.now c.get_with_hash.new.self (call.Get c.args.key c.hash-hash.result false c.args.now) (reply.Get a)) (got_itself own c.in_ok-found.found copied) (made.0, made.1, made.2, tt))
+    let (own, made, copied) = c.in-Ok.ensures.step in
+    (c.hash-hash.result, c.in-Ok.found, c.is_some.ensures, subst (λ a. IsOneCall (engine_meaning (λ a b. a == b)) c.args.cache.now c.get_with_hash.new.self (call.Get c.args.key c.hash-hash.result false c.args.now) (reply.Get a)) (got_itself own c.in-Ok.found copied) (made.0, made.1, made.2, tt))
 
 pub returns-clause-alike : goal.returns-clause-alike
 returns-clause-alike c =
-    let (own, made, copied) = c.in_ok-found.ensures in
-    let itself = got_itself own c.in_ok-found.found copied in
+    let (own, made, copied) = c.in-Ok.ensures.step in
+    let itself = got_itself own c.in-Ok.found copied in
     let agrees = c.gets_what_is_contained.ensures.listed c.args.cache.now.write_list c.get_with_hash.new.self.write_list c.args.cache.now.state c.args.key c.hash-hash.result false c.args.now.0 own made.0 c.get_with_hash.new.self.state c.contains_key_with_hash-is_contained.result
     c.invariant_holds.ensures.valid.numbered made.1 c.contains_key_with_hash-is_contained.ensures (ap is_answered itself) in
-    sym agrees ∙ ap is_found itself ∙ found_some c.in_ok-found.found ∙ sym c.is_some.ensures
+    sym agrees ∙ ap is_found itself ∙ found_some c.in-Ok.found ∙ sym c.is_some.ensures
+
+pub unreachable-requires : goal.unreachable-requires
+unreachable-requires c = true≢false (sym (c.in-Err.ensures.succeeds (λ r there. (tt, λ asked. tt))))

@@ -1,4 +1,4 @@
-use Rattle.std.proofs.Common.{◌≡◌, ℕ, true, false, List, Option, Result, sym}
+use Rattle.std.proofs.Common.{◌≡◌, ℕ, true, false, List, Option, Result, Ok, sym, true≢false}
 use Rattle.std.specs.Prelude.{String, is_some}
 use Rattle.std.specs.Cmp.Lexicographic.{bytes_decides}
 use Rattle.std.specs.String.{string_bytes, string_eq}
@@ -9,10 +9,6 @@ use Rattle.moka_engine.specs.Runs.{Engine}
 use Rattle.moka_engine.specs.State.{Meaning}
 use Rattle.moka_cache.specs.Synchronous.{GetsValue, Makes}
 use Rattle.moka_uses.specs.Made.{LooksUp, plain_meaning}
-use Rattle.moka_engine.specs.KeyTests.{record_by}
-use Rattle.moka_engine.specs.Visibility.{IsShown}
-use Rattle.moka_uses.specs.Borrowed.{IsFoundAt}
-use Rattle.moka_uses.proofs.Followed.{if_ok}
 use Rattle.moka_uses.proofs.Named.{has_text, named, found_at}
 use Rattle.moka_uses.proofs.LookedUp.{looked_up}
 use Rattle.moka_uses.proofs.borrowed.price.Goals as goal
@@ -26,15 +22,18 @@ module _ {Z S X L P W C : Type 0} (m : Meaning (String Z) ℕ X L P W C (Unit {0
       looked_up m key hash now old clock new clock_after made.0 result made.1 made.2
 
 pub returns-clause-value : goal.returns-clause-value
-returns-clause-value g c = named c.args.prices.now.cache.engine.state c.args.name.now c.get_by.result c.get_by.ensures.value
+returns-clause-value g c = named c.args.prices.now.cache.engine.state c.args.name.now c.in-Ok.found c.in-Ok.ensures.value
 
 pub returns-clause-found : goal.returns-clause-found
 returns-clause-found g c =
-    let (now, read, told, got) = c.get_by.ensures.made in
+    let (now, read, told, got) = c.in-Ok.ensures.made in
     let s = c.args.prices.now.cache.engine.state in (
       now,
       read,
       told,
-      if_ok (λ found. IsShown (λ _ _ _ answer. answer ≡ false) s (record_by (has_text c.args.name.now) s.records) now.0 (is_some found)) (λ found. IsFoundAt s c.args.name.now now.0 (is_some found)) (λ found shown. found_at s c.args.name.now (λ _ _ _ answer. answer ≡ false) now.0 (is_some found) shown) c.get_by.result got.shown,
-      looked_up_by (plain_meaning string_eq g.C.Clock.reads) c.args.name.now _ now c.args.prices.now.cache.engine read c.get_by.new.self.cache.engine c.get_by.new.self.clock c.get_by.result got.made,
+      found_at s c.args.name.now (λ _ _ _ answer. answer ≡ false) now.0 (is_some c.in-Ok.found) got.shown,
+      looked_up_by (plain_meaning string_eq g.C.Clock.reads) c.args.name.now _ now c.args.prices.now.cache.engine read c.get_by.new.self.cache.engine c.get_by.new.self.clock (Ok c.in-Ok.found) got.made,
     )
+
+pub unreachable-requires : goal.unreachable-requires
+unreachable-requires g c = true≢false (sym (c.in-Err.ensures.succeeds (λ r there. tt)))

@@ -8,7 +8,7 @@ use Rattle.moka_uses.proofs.bounded.put_and_get.Goals as goal
 pub returns : goal.returns
 returns c =
     let put = c.in_ok-ticket.ensures in
-    let get = c.in_ok-found.ensures in
+    let get = c.in_ok-found.ensures.step in
     let found = finds_what_was_put _ (λ _ _ _ answer. answer ≡ false) (λ _ _ _ _ left _. left) (ListedRun (λ _ _ _ answer. answer ≡ false) (λ _ _ _ _ left _. left) c.send.new.self.write_list c.get_with_hash.new.self.write_list) (λ _ _ _ _. None) (λ _ _ _ _ left. left) (λ _ _ _ weight. weight ≡ 1)
     (λ x y. y ≡ x) (λ x y. y ≡ x) nat_eq_equiv _ _ _ c.in_ok-cache.cache.state (ap (λ x. x.state) c.in_ok-cache.ensures.empty) (search rules) (search rules) (search rules) (search rules)
     c.args.key c.hash-hash.result c.args.value (record { 0 = 0 }) (c.in_ok-ticket.ticket, c.in_ok-ticket.field-0-1) put.0 c.do_insert_with_hash.new.self.state put.1.1

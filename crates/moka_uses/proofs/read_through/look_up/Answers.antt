@@ -25,7 +25,7 @@ given Given Fails (Err refused) answered = tt
 
 pub returns : goal.returns
 returns g c =
-    let got = c.try_get_with.ensures in
+    let got = c.try_get_with.ensures.step in
     record {
       made = (_, got);
       given = given _ _ c.try_get_with.result got.2.4;

@@ -1,4 +1,4 @@
 use Rattle.moka_uses.proofs.selected.put_if_absent.Goals as goal
 
 pub returns-clause-given : goal.returns-clause-given
-returns-clause-given g c = rw (c.entry.ensures.key, c.entry.ensures.unchanged) at c.or_insert.ensures.7
+returns-clause-given g c = rw (c.entry.ensures.key, c.entry.ensures.unchanged) at c.or_insert.ensures.step.7

@@ -5,12 +5,12 @@ use Rattle.moka_uses.proofs.shared.get_or_put.Goals as goal
 pub returns-clause-made : goal.returns-clause-made
 returns-clause-made g c = rw (← c.segment_of-own.ensures.place) (record {
   routing = refl;
-  one = record { before = c.segment_mut.result.now; after = c.get_or_insert.new.self; there = c.segment_mut.ensures.is; step = c.get_or_insert.ensures; others = refl };
+  one = record { before = c.segment_mut.result.now; after = c.get_or_insert.new.self; there = c.segment_mut.ensures.is; step = c.get_or_insert.ensures.step; others = refl };
 })
 
 pub returns-clause-moves : goal.returns-clause-moves
 returns-clause-moves g c =
-    let (put, own, is, hands, entry, (calls, replies, fit, made), counted, given, back) = c.get_or_insert.ensures in
+    let (put, own, is, hands, entry, (calls, replies, fit, made), counted, given, back) = c.get_or_insert.ensures.step in
     let v : Move g.row.K.Denot g.row.V.Denot g.row.P.Denot = record { index = c.segment_of-own.result; calls = calls; replies = replies } in
     rw (← c.segment_of-own.ensures.place) (
       put,

@@ -1,5 +1,5 @@
-use Rattle.std.specs.String.{string_bytes, string_eq_equiv}
+use Rattle.std.specs.String.{string_eq_equiv}
 use Rattle.moka_uses.proofs.texts.list.Goals as goal
 
 pub returns : goal.returns
-returns c = c.in_ok-iter.ensures.visible (λ key clone same. rw same (string_eq_equiv.refl key))
+returns c = c.iter.ensures.visible (λ key clone same. rw same (string_eq_equiv.refl key))

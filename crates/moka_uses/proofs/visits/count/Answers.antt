@@ -6,7 +6,7 @@ use Rattle.moka_uses.proofs.visits.count.Goals as goal
 
 pub returns : goal.returns
 returns g c =
-    let called = c.and_upsert_with.ensures in
+    let called = c.and_upsert_with.ensures.step in
     let old = c.entry.result.cache.now.engine in
     let new = c.and_upsert_with.new.self.0.engine in
     let all = counted g.C.Clock.reads c.entry.result.key _ c.args.now old c.args.clock.now new c.and_upsert_with.new.clock (λ a b. b ≡ a) called.0 called.1 called.2 called.8 _ (λ seen value answers. search rules) called.3 called.4 c.and_upsert_with.result called.5 called.6 called.9 in
@@ -15,7 +15,7 @@ returns g c =
 
 pub returns-in_err-entry-clause-back : goal.returns-in_err-entry-clause-back
 returns-in_err-entry-clause-back g c =
-    let called = c.and_upsert_with.ensures in
+    let called = c.and_upsert_with.ensures.step in
     let old = c.entry.result.cache.now.engine in
     let new = c.and_upsert_with.new.self.0.engine in
     let all = counted g.C.Clock.reads c.entry.result.key _ c.args.now old c.args.clock.now new c.and_upsert_with.new.clock (λ a b. b ≡ a) called.0 called.1 called.2 called.8 _ (λ seen value answers. search rules) called.3 called.4 c.and_upsert_with.result called.5 called.6 called.9 in
@@ -24,7 +24,7 @@ returns-in_err-entry-clause-back g c =
 
 pub returns-in_err-entry-clause-refused : goal.returns-in_err-entry-clause-refused
 returns-in_err-entry-clause-refused g c =
-    let called = c.and_upsert_with.ensures in
+    let called = c.and_upsert_with.ensures.step in
     let old = c.entry.result.cache.now.engine in
     let new = c.and_upsert_with.new.self.0.engine in
     let all = counted g.C.Clock.reads c.entry.result.key _ c.args.now old c.args.clock.now new c.and_upsert_with.new.clock (λ a b. b ≡ a) called.0 called.1 called.2 called.8 _ (λ seen value answers. search rules) called.3 called.4 c.and_upsert_with.result called.5 called.6 called.9 in

@@ -5,7 +5,7 @@ use Rattle.moka_uses.proofs.visits.take_full.Goals as goal
 
 pub returns-in-Removed : goal.returns-in-Removed
 returns-in-Removed g c =
-    let made = c.and_compute_with.ensures in
+    let made = c.and_compute_with.ensures.step in
     let old = c.entry.result.cache.now.engine in
     let new = c.and_compute_with.new.self.0.engine in
     let told = made.6 in
@@ -15,7 +15,7 @@ returns-in-Removed g c =
 
 pub returns-in_default : goal.returns-in_default
 returns-in_default g c =
-    let made = c.and_compute_with.ensures in
+    let made = c.and_compute_with.ensures.step in
     let old = c.entry.result.cache.now.engine in
     let new = c.and_compute_with.new.self.0.engine in
     let told = made.6 in
@@ -25,7 +25,7 @@ returns-in_default g c =
 
 pub returns-in_err-entry-clause-refused : goal.returns-in_err-entry-clause-refused
 returns-in_err-entry-clause-refused g c =
-    let made = c.and_compute_with.ensures in
+    let made = c.and_compute_with.ensures.step in
     let old = c.entry.result.cache.now.engine in
     let new = c.and_compute_with.new.self.0.engine in
     let told = made.6 in

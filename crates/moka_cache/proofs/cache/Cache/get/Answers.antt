@@ -1,8 +1,8 @@
 use Rattle.moka_cache.proofs.Asking.{seen_value, seen_found}
 use Rattle.moka_cache.proofs.cache.Cache.get.Goals as goal
 
-pub returns : goal.returns
-returns g c =
+pub returns-clause-step : goal.returns-clause-step
+returns-clause-step g c =
     let e = c.get_hashed.ensures in
     record {
       made = e.made;

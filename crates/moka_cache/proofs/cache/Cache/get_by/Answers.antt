@@ -10,20 +10,20 @@ use Rattle.moka_calls.specs.Given.{Sees}
 use Rattle.moka_calls.specs.Synchronous.{value_found}
 use Rattle.moka_laws.proofs.Alike.{gets_alike, listed_run_alike}
 use Rattle.moka_cache.proofs.Waiting.{none_of_key}
-use Rattle.moka_cache.proofs.Asking.{got, value_copied, handed_out, seen_found, unchanged_when_refused}
+use Rattle.moka_cache.proofs.Asking.{got, value_copied, value_alone, value_granted, handed_out, seen_found, unchanged_when_refused}
 use Rattle.moka_cache.proofs.ByTest.{got_as_key, got_none, none_passes}
 use Rattle.moka_cache.proofs.cache.Cache.get_by.Goals as goal
 
 pub invariant_of-self : goal.invariant_of-self
 invariant_of-self g c =
-    let gets = c.get_by-entry.ensures in
+    let gets = c.get_by-entry.ensures.step in
     let s = c.self.inside.engine.state in
     (gets_alike (ListedRun g.P.PredicateFn.says g.X.Expiry.read c.self.inside.engine.write_list c.get_by-entry.new.self.write_list) (listed_run_alike g.P.PredicateFn.says g.X.Expiry.read c.self.inside.engine.write_list c.get_by-entry.new.self.write_list) g.P.PredicateFn.says g.X.Expiry.read s (record_by (g.T.KeyTest.passes c.args.test.now) s.records) c.args.hash false false c.args.now.0 gets.0 gets.1.0 c.get_by-entry.new.self.state gets.1.1).0.outstanding ∙ c.self.invariant
 
-pub returns : goal.returns
-returns g c =
+pub returns-clause-step : goal.returns-clause-step
+returns-clause-step g c =
     let s = c.self.inside.engine.state in
-    let gets = c.get_by-entry.ensures in
+    let gets = c.get_by-entry.ensures.step in
     let as_key = got_as_key g.K.PartialEq.eq (g.T.KeyTest.passes c.args.test.now) (g.met.T.KeyTest.one_key c.args.test.now) s g.P.PredicateFn.says g.X.Expiry.read (ListedRun g.P.PredicateFn.says g.X.Expiry.read c.self.inside.engine.write_list c.get_by-entry.new.self.write_list) c.args.hash c.args.now.0 gets.0 gets.1.0 c.get_by-entry.new.self.state gets.1.1 in
     let as_none = got_none g.K.PartialEq.eq (g.T.KeyTest.passes c.args.test.now) (g.met.T.KeyTest.one_key c.args.test.now) s g.P.PredicateFn.says g.X.Expiry.read (ListedRun g.P.PredicateFn.says g.X.Expiry.read c.self.inside.engine.write_list c.get_by-entry.new.self.write_list) c.args.hash c.args.now.0 gets.0 gets.1.0 c.get_by-entry.new.self.state gets.1.1 in
     let none_kept = none_passes g.K.PartialEq.eq (g.T.KeyTest.passes c.args.test.now) s c.invariant_holds.ensures.valid.numbered in
@@ -44,3 +44,7 @@ returns g c =
       hasher = ap (λ x. x.hasher) gets.1.2.kept;
       counted = rw (c.value_of-found.ensures) at c.count_look_up.ensures;
     })
+
+pub returns-clause-succeeds : goal.returns-clause-succeeds
+returns-clause-succeeds g c = rw (← c.self.view_is, c.value_of-found.ensures) (λ granted.
+    value_granted c.get_by-entry.result (c.get_by-entry.ensures.succeeds (value_alone g.K.Clone.is_infallible g.V.Clone.is_infallible _ granted)))

@@ -30,7 +30,7 @@ pub loop-key-preserved : goal.loop-key-preserved
 loop-key-preserved g c =
     let hash_by : g.row.S.Denot → g.row.K.Denot → ℕ = λ h key. key_hash g.S.BuildHasher g.S.Hasher.Hasher h (g.K.Hash.hash_input key) in
     let h = c.loop-key.invariant.made in
-    let k = c.in-Ok-get.ensures.made in
+    let k = c.in-Ok-get.ensures.step.made in
     let item : g.row.K.Denot × Option g.row.V.Denot = (c.in-Some.key.now, c.in-Ok-get.value) in
     let got = got_item _ g.V.Clone.is_clone (hash_by c.loop-key.self.engine.hasher) c.args.now c.in-Some.key.now c.loop-key.self.engine c.get.new.self.engine c.loop-key.clock c.get.new.clock k.0 c.in-Ok-get.value k.1 k.2 in
     record {
@@ -40,7 +40,7 @@ loop-key-preserved g c =
         c.push_reserved.ensures.items ∙ (ap (λ xs. xs ++ c.in-Ok-get.value ∷ []) h.2 ∙ sym (map-append (λ g. g.1) h.0 (item ∷ []))),
         made_next _ hash_by (λ f. GetsItem g.V.Clone.is_clone f c.args.now) c.args.self.now.engine c.loop-key.self.engine c.get.new.self.engine c.args.clock.now c.loop-key.clock c.get.new.clock h.0 h.3 item got,
       );
-      counted = c.in-Ok-get.ensures.counted ∙ (ap (after_look_up {E = OutOfMemory} (Ok c.in-Ok-get.value)) c.loop-key.invariant.counted ∙ (sym (counts_one_more c.loop-key.found.items c.in-Ok-get.value c.args.self.now.stats) ∙ ap (λ xs. after_look_ups xs c.args.self.now.stats) (sym c.push_reserved.ensures.items)));
+      counted = c.in-Ok-get.ensures.step.counted ∙ (ap (after_look_up {E = OutOfMemory} (Ok c.in-Ok-get.value)) c.loop-key.invariant.counted ∙ (sym (counts_one_more c.loop-key.found.items c.in-Ok-get.value c.args.self.now.stats) ∙ ap (λ xs. after_look_ups xs c.args.self.now.stats) (sym c.push_reserved.ensures.items)));
       room = omega (arith, c.push_reserved.ensures.len, c.push_reserved.ensures.capacity, c.loop-key.invariant.room, ap length c.in-Some.ensures.cases.0);
     }
 
@@ -48,7 +48,7 @@ pub returns-in-Err-clause-made : goal.returns-in-Err-clause-made
 returns-in-Err-clause-made g c =
     let hash_by : g.row.S.Denot → g.row.K.Denot → ℕ = λ h key. key_hash g.S.BuildHasher g.S.Hasher.Hasher h (g.K.Hash.hash_input key) in
     let h = c.loop-key.invariant.made in
-    let k = c.in-Err.ensures.made in
+    let k = c.in-Err.ensures.step.made in
     let refused = refused_get _ g.V.Clone.is_clone (hash_by c.loop-key.self.engine.hasher) c.args.now c.in-Some.key.now c.loop-key.self.engine c.get.new.self.engine c.loop-key.clock c.get.new.clock k.0 c.in-Err.field-0 k.1 k.2 in
     let last = made_last _ hash_by (λ f. GetsItem g.V.Clone.is_clone f c.args.now) c.args.self.now.engine c.loop-key.self.engine c.get.new.self.engine c.args.clock.now c.loop-key.clock c.get.new.clock h.0 h.3 (λ f. GetsValue c.in-Some.key.now (f c.in-Some.key.now) c.args.now (Err refused.0)) refused.1 in (
       last.0,
@@ -58,7 +58,7 @@ returns-in-Err-clause-made g c =
     )
 
 pub returns-in-Err-clause-counted : goal.returns-in-Err-clause-counted
-returns-in-Err-clause-counted g c = c.in-Err.ensures.counted ∙ c.loop-key.invariant.counted
+returns-in-Err-clause-counted g c = c.in-Err.ensures.step.counted ∙ c.loop-key.invariant.counted
 
 pub returns-clause-made : goal.returns-clause-made
 returns-clause-made g c =

@@ -1,10 +1,15 @@
 use Rattle.std.proofs.Common.{rules, of_calls}
 use Rattle.moka_records.specs.Hashing.{key_hash}
+use Rattle.moka_cache.specs.Keyed.{IsOfInsert}
+use Rattle.moka_cache.proofs.Getting.{refused_anyway}
 use Rattle.moka_cache.proofs.Entries.{always_fresh}
 use Rattle.moka_cache.proofs.cache.Cache.get_or_insert_with.Goals as goal
 
-pub returns : goal.returns
-returns g c =
-    let got = rw c.always_made.ensures at c.get_or_try_insert_with.ensures in
+pub returns-clause-step : goal.returns-clause-step
+returns-clause-step g c =
+    let got = rw c.always_made.ensures at c.get_or_try_insert_with.ensures.step in
     let hash = key_hash g.S.BuildHasher g.S.Hasher.Hasher c.args.self.now.engine.hasher (g.K.Hash.hash_input c.args.key) in
     always_fresh g.K.Clone.is_clone g.V.Clone.is_clone _ c.args.key hash c.args.now c.args.self.now c.get_or_try_insert_with.new.self c.args.clock.now c.get_or_try_insert_with.new.clock _ (g.F.FnOnce.post c.args.init tt) c.always_made.result got (λ v called. search (of_calls, rules))
+
+pub returns-clause-looks_up : goal.returns-clause-looks_up
+returns-clause-looks_up g c = λ granted. refused_anyway IsOfInsert c.always_made.result (rw c.always_made.ensures at (c.get_or_try_insert_with.ensures.looks_up granted))

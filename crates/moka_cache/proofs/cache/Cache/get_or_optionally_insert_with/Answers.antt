@@ -1,9 +1,14 @@
 use Rattle.std.proofs.Common.{rules, of_calls}
 use Rattle.moka_records.specs.Hashing.{key_hash}
+use Rattle.moka_cache.specs.Keyed.{IsOfInsert}
+use Rattle.moka_cache.proofs.Getting.{refused_if_made}
 use Rattle.moka_cache.proofs.Entries.{may_be_fresh}
 use Rattle.moka_cache.proofs.cache.Cache.get_or_optionally_insert_with.Goals as goal
 
-pub returns : goal.returns
-returns g c =
+pub returns-clause-step : goal.returns-clause-step
+returns-clause-step g c =
     let hash = key_hash g.S.BuildHasher g.S.Hasher.Hasher c.args.self.now.engine.hasher (g.K.Hash.hash_input c.args.key) in
-    rw c.if_made.ensures (may_be_fresh g.K.Clone.is_clone g.V.Clone.is_clone _ c.args.key hash c.args.now c.args.self.now c.get_or_try_insert_with.new.self c.args.clock.now c.get_or_try_insert_with.new.clock _ (g.F.FnOnce.post c.args.init tt) c.get_or_try_insert_with.result c.get_or_try_insert_with.ensures (λ a called. search (of_calls, rules)))
+    rw c.if_made.ensures (may_be_fresh g.K.Clone.is_clone g.V.Clone.is_clone _ c.args.key hash c.args.now c.args.self.now c.get_or_try_insert_with.new.self c.args.clock.now c.get_or_try_insert_with.new.clock _ (g.F.FnOnce.post c.args.init tt) c.get_or_try_insert_with.result c.get_or_try_insert_with.ensures.step (λ a called. search (of_calls, rules)))
+
+pub returns-clause-looks_up : goal.returns-clause-looks_up
+returns-clause-looks_up g c = λ granted. rw c.if_made.ensures (refused_if_made IsOfInsert c.get_or_try_insert_with.result (c.get_or_try_insert_with.ensures.looks_up granted))

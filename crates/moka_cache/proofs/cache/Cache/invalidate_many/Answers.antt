@@ -17,21 +17,21 @@ pub loop-key-preserved : goal.loop-key-preserved
 loop-key-preserved g c =
     let hash_by : g.row.S.Denot → g.row.K.Denot → ℕ = λ h key. key_hash g.S.BuildHasher g.S.Hasher.Hasher h (g.K.Hash.hash_input key) in
     let h = c.loop-key.invariant.made in
-    let k = c.in-Ok.ensures.made in
+    let k = c.in-Ok.ensures.step.made in
     record {
       made = (
         h.0 ++ c.in-Some.key.now ∷ [],
         h.1 ∙ (ap (λ xs. h.0 ++ xs) c.in-Some.ensures.cases.0 ∙ sym (append_assoc h.0 (c.in-Some.key.now ∷ []) c.in-Some.after.now)),
         made_next _ hash_by (λ f. Invalidates f c.args.now (Ok tt)) c.args.self.now.engine c.loop-key.self.engine c.invalidate.new.self.engine c.args.clock.now c.loop-key.clock c.invalidate.new.clock h.0 h.2 c.in-Some.key.now (k.2.0, k.2.1, (k.0, k.1, k.2.2), k.2.3),
       );
-      counted = c.in-Ok.ensures.counted ∙ c.loop-key.invariant.counted;
+      counted = c.in-Ok.ensures.step.counted ∙ c.loop-key.invariant.counted;
     }
 
 pub returns-in-Err-clause-made : goal.returns-in-Err-clause-made
 returns-in-Err-clause-made g c =
     let hash_by : g.row.S.Denot → g.row.K.Denot → ℕ = λ h key. key_hash g.S.BuildHasher g.S.Hasher.Hasher h (g.K.Hash.hash_input key) in
     let h = c.loop-key.invariant.made in
-    let k = c.in-Err.ensures.made in
+    let k = c.in-Err.ensures.step.made in
     let last = made_last _ hash_by (λ f. Invalidates f c.args.now (Ok tt)) c.args.self.now.engine c.loop-key.self.engine c.invalidate.new.self.engine c.args.clock.now c.loop-key.clock c.invalidate.new.clock h.0 h.2 (λ f. Invalidates f c.args.now (Err c.in-Err.refused) c.in-Some.key.now) (k.2.0, k.2.1, (k.0, k.1, k.2.2), k.2.3) in (
       last.0,
       last.1,

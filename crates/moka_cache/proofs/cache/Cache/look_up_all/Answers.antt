@@ -23,7 +23,7 @@ pub loop-key-preserved-in-Some-2 : goal.loop-key-preserved-in-Some-2
 loop-key-preserved-in-Some-2 g c =
     let step = c.in-Some.ensures.steps in
     let looks = LooksUp g.P.PredicateFn.says g.V.Clone.is_clone c.args.engine.now.state c.args.now.0 g.K.PartialEq.eq in
-    let found = subst (HandsOut g.V.Clone.is_clone (ScanStep g.P.PredicateFn.says g.K.PartialEq.eq c.args.engine.now.state c.in-Some.key c.args.now.0)) (c.in_ok-value.was ∙ ap Ok c.in-Some-2.is) c.scanning_get.ensures in
+    let found = subst (HandsOut g.V.Clone.is_clone (ScanStep g.P.PredicateFn.says g.K.PartialEq.eq c.args.engine.now.state c.in-Some.key c.args.now.0)) (c.in_ok-value.was ∙ ap Ok c.in-Some-2.is) c.scanning_get.ensures.step in
     record {
       can = tt;
       finite = tt;
@@ -35,7 +35,7 @@ loop-key-preserved-in-Some-2 g c =
 pub loop-key-preserved : goal.loop-key-preserved
 loop-key-preserved g c =
     let step = c.in-Some.ensures.steps in
-    let found = subst (HandsOut g.V.Clone.is_clone (ScanStep g.P.PredicateFn.says g.K.PartialEq.eq c.args.engine.now.state c.in-Some.key c.args.now.0)) (c.in_ok-value.was ∙ ap Ok c.in_default-2.is) c.scanning_get.ensures in
+    let found = subst (HandsOut g.V.Clone.is_clone (ScanStep g.P.PredicateFn.says g.K.PartialEq.eq c.args.engine.now.state c.in-Some.key c.args.now.0)) (c.in_ok-value.was ∙ ap Ok c.in_default-2.is) c.scanning_get.ensures.step in
     record {
       can = tt;
       finite = tt;

@@ -1,37 +1,40 @@
-use Rattle.std.proofs.Common.{ℕ, rules, Some, None, Ok, Err}
+use Rattle.std.proofs.Common.{ℕ, rules, Some, None, Ok, Err, sym, true≢false}
 use Rattle.moka_records.specs.Hashing.{key_hash}
 use Rattle.moka_cache.proofs.Getting.{failed, got_refused, got_value, made_and_handed_out}
 use Rattle.moka_cache.proofs.cache.Cache.try_get_with.Goals as goal
 
-pub returns-in-Ok-Some : goal.returns-in-Ok-Some
-returns-in-Ok-Some g c =
+pub returns-in-Ok-Some-clause-step : goal.returns-in-Ok-Some-clause-step
+returns-in-Ok-Some-clause-step g c =
     let hash_by : g.row.S.Denot → ℕ = λ h. key_hash g.S.BuildHasher g.S.Hasher.Hasher h (g.K.Hash.hash_input c.args.key) in
     let came = got_value g.V.Clone.is_clone _ c.args.key hash_by c.args.now c.args.self.now c.get_hashed.new.self c.args.clock.now c.get_hashed.new.clock (λ a. g.F.FnOnce.post c.args.init tt a) _ c.in-Ok-Some.value c.in-Ok-Some.field-0-is c.in-Ok-Some.ensures.made c.in-Ok-Some.ensures.counted c.in-Ok-Some.ensures.sees in
     (None, Ok (Ok came.0), came.1)
 
-pub returns-in-Err : goal.returns-in-Err
-returns-in-Err g c =
+pub returns-in-Err-clause-step : goal.returns-in-Err-clause-step
+returns-in-Err-clause-step g c =
     let hash_by : g.row.S.Denot → ℕ = λ h. key_hash g.S.BuildHasher g.S.Hasher.Hasher h (g.K.Hash.hash_input c.args.key) in
     let came = got_refused g.V.Clone.is_clone _ c.args.key hash_by c.args.now c.args.self.now c.get_hashed.new.self c.args.clock.now c.get_hashed.new.clock (λ a. g.F.FnOnce.post c.args.init tt a) c.in-Err.field-0 c.in-Err.ensures.made c.in-Err.ensures.counted c.in-Err.ensures.unchanged.0 in
     (None, Err None, came)
 
-pub returns-in-Err-init : goal.returns-in-Err-init
-returns-in-Err-init g c =
+pub returns-in-Err-init-clause-step : goal.returns-in-Err-init-clause-step
+returns-in-Err-init-clause-step g c =
     let hash_by : g.row.S.Denot → ℕ = λ h. key_hash g.S.BuildHasher g.S.Hasher.Hasher h (g.K.Hash.hash_input c.args.key) in
     let came = failed g.V.Clone.is_clone _ c.args.key hash_by c.args.now c.args.self.now c.get_hashed.new.self c.args.clock.now c.get_hashed.new.clock _ c.in-Ok-None.field-0-is c.in-Ok-None.ensures.made c.in-Ok-None.ensures.counted c.count_load.new.self c.count_load.ensures (λ a. g.F.FnOnce.post c.args.init tt a) c.in-Err-init.error c.in-Err-init.ensures in
     (Some (Err c.in-Err-init.error), came.0, came.1)
 
-pub returns-in-Ok-insert_made_hashed : goal.returns-in-Ok-insert_made_hashed
-returns-in-Ok-insert_made_hashed g c =
+pub returns-in-Ok-insert_made_hashed-clause-step : goal.returns-in-Ok-insert_made_hashed-clause-step
+returns-in-Ok-insert_made_hashed-clause-step g c =
     let hash_by : g.row.S.Denot → ℕ = λ h. key_hash g.S.BuildHasher g.S.Hasher.Hasher h (g.K.Hash.hash_input c.args.key) in
     let came = made_and_handed_out g.V.Clone.is_clone _ c.args.key hash_by c.args.now c.args.self.now c.get_hashed.new.self c.args.clock.now c.get_hashed.new.clock _ c.in-Ok-None.field-0-is c.in-Ok-None.ensures.made c.in-Ok-None.ensures.counted c.count_load.new.self c.count_load.ensures c.in-Ok-None.ensures.sees (λ a. g.F.FnOnce.post c.args.init tt a) c.in-Ok.value c.in-Ok.ensures c.insert_made_hashed.new.self c.insert_made_hashed.new.clock c.insert_made_hashed.ensures.counted (Ok c.in-Ok-insert_made_hashed.copy) c.in-Ok-insert_made_hashed.ensures.made tt in
     (Some (Ok c.in-Ok.value), came.0, came.1)
 
-pub returns-in-Err-insert_made_hashed : goal.returns-in-Err-insert_made_hashed
-returns-in-Err-insert_made_hashed g c =
+pub returns-in-Err-insert_made_hashed-clause-step : goal.returns-in-Err-insert_made_hashed-clause-step
+returns-in-Err-insert_made_hashed-clause-step g c =
     let hash_by : g.row.S.Denot → ℕ = λ h. key_hash g.S.BuildHasher g.S.Hasher.Hasher h (g.K.Hash.hash_input c.args.key) in
     let came = made_and_handed_out g.V.Clone.is_clone _ c.args.key hash_by c.args.now c.args.self.now c.get_hashed.new.self c.args.clock.now c.get_hashed.new.clock _ c.in-Ok-None.field-0-is c.in-Ok-None.ensures.made c.in-Ok-None.ensures.counted c.count_load.new.self c.count_load.ensures c.in-Ok-None.ensures.sees (λ a. g.F.FnOnce.post c.args.init tt a) c.in-Ok.value c.in-Ok.ensures c.insert_made_hashed.new.self c.insert_made_hashed.new.clock c.insert_made_hashed.ensures.counted (Err c.in-Err-insert_made_hashed.refused) c.in-Err-insert_made_hashed.ensures.made c.in-Err-insert_made_hashed.ensures.back in
     (Some (Ok c.in-Ok.value), came.0, came.1)
+
+pub returns-in-Err-clause-looks_up : goal.returns-in-Err-clause-looks_up
+returns-in-Err-clause-looks_up g c = λ granted. absurd (true≢false (sym (c.in-Err.ensures.succeeds granted)))
 
 pub init-requires : goal.init-requires
 init-requires g c = c.requires.callable (search rules)

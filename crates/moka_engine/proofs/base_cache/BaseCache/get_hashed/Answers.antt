@@ -42,27 +42,32 @@ record_hit_by-requires-clause-found g c =
     ap (option_map (λ (r : Record g.row.K.Denot g.row.V.Denot). r.number)) (record_by_key g.K.PartialEq.eq passes one_key c.note_hit.new.inner.kept.records key passing)
     ∙ number-read c.self.invariant hit refl g.met.K.Eq.laws key (g.met.K.Eq.laws.refl key)
 
-pub returns-in-Missed : goal.returns-in-Missed
-returns-in-Missed g c =
+pub returns-in-Missed-clause-step : goal.returns-in-Missed-clause-step
+returns-in-Missed-clause-step g c =
     let at = c.in-Missed.ensures in
     let missed = get_misses g.P.PredicateFn.says g.X.Expiry.read g.L.Listener.tells g.C.Clock.reads c.self.view_is (record_by (g.T.KeyTest.passes c.args.sought.0.now)) c.args.sought.1.hash c.args.need_key at.0 c.args.now c.args.clock.now
     (rw c.store-store.ensures at at.2) c.record_miss.ensures.disabled c.record_miss.ensures.enabled in
     (at.0, rw (← c.self.view_is) (rw c.store-store.ensures at at.1), (Ok None, missed, refl))
 
-pub returns-in-Refused : goal.returns-in-Refused
-returns-in-Refused g c =
+pub returns-in-Refused-clause-step : goal.returns-in-Refused-clause-step
+returns-in-Refused-clause-step g c =
     let at = c.in-Refused.ensures in
     let refused = get_refused g.P.PredicateFn.says g.X.Expiry.read g.L.Listener.tells g.C.Clock.reads c.self.view_is (record_by (g.T.KeyTest.passes c.args.sought.0.now)) c.args.sought.1.hash c.args.need_key at.0 c.args.now c.args.clock.now
     g.met.K.Eq.laws c.self.inside.inner c.self.invariant (rw c.store-store.ensures at at.2.2) refl (record {}) in
     (at.0, rw (← c.self.view_is) (rw c.store-store.ensures at at.1), (Err (record {}), refused, refl))
 
+pub returns-in-Refused-clause-succeeds : goal.returns-in-Refused-clause-succeeds
+returns-in-Refused-clause-succeeds g c =
+    let (handle, r, at, refused) = c.in-Refused.ensures.2 in
+    rw (← c.self.view_is) (λ granted. absurd (refused (granted r (rw c.store-store.ensures at at.found))))
+
 pub invariant_of-self : goal.invariant_of-self
 invariant_of-self g c = whole-noted c.self.invariant (noted g (goal.at.invariant_of-self g c).After-note_hit c.note_hit.new.inner (c.note_hit.ensures.waits c.if-note_hit.true) refl) refl g.met.K.Eq.laws
 
-pub returns-then-note_hit : goal.returns-then-note_hit
-returns-then-note_hit g c =
+pub returns-then-note_hit-clause-step : goal.returns-then-note_hit-clause-step
+returns-then-note_hit-clause-step g c =
     let at = c.in-Found.ensures in
-    let noted = noted g (goal.at.returns-then-note_hit g c).After-note_hit c.note_hit.new.inner (c.note_hit.ensures.waits c.if-note_hit.true) refl in
+    let noted = noted g (goal.at.returns-then-note_hit-clause-step g c).After-note_hit c.note_hit.new.inner (c.note_hit.ensures.waits c.if-note_hit.true) refl in
     let hit = get_hits g.P.PredicateFn.says g.X.Expiry.read g.L.Listener.tells g.C.Clock.reads c.self.view_is (record_by (g.T.KeyTest.passes c.args.sought.0.now)) c.args.sought.1.hash c.args.need_key at.0 c.args.now c.args.clock.now
     g.met.K.Eq.laws c.self.inside.inner c.self.invariant (rw c.store-store.ensures at at.2.1) refl noted (rw c.in-Found.ensures.2.2.1 at c.record_hit_by.ensures) in
     (at.0, rw (← c.self.view_is) (rw c.store-store.ensures at at.1), (Ok (Some (entry_at c.args.need_key c.in-Found.ensures.2.0)), hit, c.in-Found.ensures.2.2.0))
@@ -73,11 +78,11 @@ invariant_of-self-else-note_hit g c =
     let whole = whole-noted c.self.invariant (noted g (goal.at.invariant_of-self-else-note_hit g c).After-note_hit mid refl refl) refl g.met.K.Eq.laws in
     whole-queued mid whole refl (Hit c.in-Found.handle.number c.in-Found.hash c.in-Found.hit.is_renewed) c.note_hit.new.inner (c.note_hit.ensures.queued c.if-note_hit.false)
 
-pub returns-else-note_hit : goal.returns-else-note_hit
-returns-else-note_hit g c =
+pub returns-else-note_hit-clause-step : goal.returns-else-note_hit-clause-step
+returns-else-note_hit-clause-step g c =
     let at = c.in-Found.ensures in
     let mid : Interior g.row.K.Denot g.row.V.Denot g.row.S.Denot = record c.self.inside.inner { kept = c.note_hit.new.inner.kept } in
-    let hit = noted g (goal.at.returns-else-note_hit g c).After-note_hit mid refl refl in
+    let hit = noted g (goal.at.returns-else-note_hit-clause-step g c).After-note_hit mid refl refl in
     let queued = queues_read g.P.PredicateFn.says g.X.Expiry.read g.L.Listener.tells g.C.Clock.reads c.self.view_is (record_by (g.T.KeyTest.passes c.args.sought.0.now)) c.args.sought.1.hash c.args.need_key at.0 c.args.now c.args.clock.now
     g.met.K.Eq.laws c.self.inside.inner c.self.invariant (rw c.store-store.ensures at at.2.1) refl hit (sym c.note_hit.ensures.due ∙ c.if-note_hit.false) (Hit c.in-Found.handle.number c.in-Found.ensures.2.0.hash c.in-Found.hit.is_renewed) c.note_hit.new.inner (rw c.in-Found.ensures.2.2.1 at (c.note_hit.ensures.queued c.if-note_hit.false)) in
     let found = get_hits g.P.PredicateFn.says g.X.Expiry.read g.L.Listener.tells g.C.Clock.reads c.self.view_is (record_by (g.T.KeyTest.passes c.args.sought.0.now)) c.args.sought.1.hash c.args.need_key at.0 c.args.now c.args.clock.now

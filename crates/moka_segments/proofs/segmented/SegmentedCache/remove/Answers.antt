@@ -6,3 +6,6 @@ returns-clause-step g c = steps_in c.args.self.now _ _ c.own_segment.result.now 
 
 pub returns-clause-value : goal.returns-clause-value
 returns-clause-value g c = steps_in c.args.self.now _ _ c.own_segment.result.now c.remove.new.self c.own_segment.ensures.is c.remove.ensures.value
+
+pub returns-clause-succeeds : goal.returns-clause-succeeds
+returns-clause-succeeds g c = steps_in c.args.self.now _ _ c.own_segment.result.now c.remove.new.self c.own_segment.ensures.is c.remove.ensures.succeeds
