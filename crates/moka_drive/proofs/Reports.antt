@@ -1,4 +1,4 @@
--- Calls that tell what there is: lists of keys, and what waits.
+-- Calls that tell what there is: lists of keys, and what waits; and replies that refuse no memory.
 use Rattle.std.proofs.Common.{refl, sym, subst, ℕ, List, Option, Some, None, Result, Ok, Err, IfOk, IfErr, option_map, true≢false}
 use Rattle.std.proofs.lemmas.List.Elements.{same_from_all_zip}
 use Rattle.std.specs.List.{AllZip}
