@@ -115,16 +115,11 @@ fn calls_by_text_agree_with_a_plain_map() {
                 plain.0.remove(&key);
             }
             7 => get_or_make(&mut cache, &mut plain, key, call, numbers.below(3)),
-            8 | 9 => put_if_absent(&mut cache, &mut plain, key, call, numbers.below(8)),
+            8 | 9 => put_if_absent(&mut cache, &mut plain, key, call, numbers.below(4)),
             10 => {
                 let twice = |old: Option<u64>| old.map_or(1, |old| old.wrapping_mul(2));
-                let entry = match call % 2 {
-                    0 => cache.upsert_with(key.clone(), twice, at, clock).expect("memory"),
-                    _ => cache
-                        .entry(key.clone())
-                        .and_upsert_with(twice, at, clock)
-                        .expect("memory"),
-                };
+                let selected = cache.entry(key.clone());
+                let entry = selected.and_upsert_with(twice, at, clock).expect("memory");
                 assert_eq!(
                     (entry.value, entry.is_old_value_replaced),
                     (twice(seen), seen.is_some())
@@ -166,28 +161,19 @@ fn get_or_make(cache: &mut Cache<String, u64>, plain: &mut Plain<String>, key: S
     }
 }
 
-/// The same by the calls whose answer is an entry, and by those of a selector.
+/// The same by the calls whose answer is an entry.
 fn put_if_absent(cache: &mut Cache<String, u64>, plain: &mut Plain<String>, key: String, call: u64, choice: u64) {
     let (at, clock, owned) = (Instant(call), &mut FixedClock(Instant(call)), key.clone());
     let seen = plain.get(&key, call);
-    let made = (choice < 4 || call.is_multiple_of(2)).then_some(call);
+    let made = (choice < 2 || call.is_multiple_of(2)).then_some(call);
     let (optionally, fallibly) = (|| made, || made.ok_or("none"));
     let found = match choice {
-        0 => cache.get_or_insert(owned, call, at, clock).ok(),
-        1 => cache.get_or_insert_with(owned, || call, at, clock).ok(),
-        2 => cache.entry(owned).or_insert(call, at, clock).ok(),
-        3 => cache.entry(owned).or_insert_with(|| call, at, clock).ok(),
-        4 => cache
-            .get_or_optionally_insert_with(owned, optionally, at, clock)
-            .expect("memory"),
-        5 => cache
+        0 => cache.entry(owned).or_insert(call, at, clock).ok(),
+        1 => cache.entry(owned).or_insert_with(|| call, at, clock).ok(),
+        2 => cache
             .entry(owned)
             .or_optionally_insert_with(optionally, at, clock)
             .expect("memory"),
-        6 => cache
-            .get_or_try_insert_with(owned, fallibly, at, clock)
-            .expect("memory")
-            .ok(),
         _ => cache
             .entry(owned)
             .or_try_insert_with(fallibly, at, clock)
@@ -228,13 +214,8 @@ fn compute(cache: &mut Cache<String, u64>, plain: &mut Plain<String>, key: Strin
             _ => Op::Remove,
         }
     };
-    let done = match call % 2 {
-        0 => cache.compute_with(key.clone(), choose, at, clock).expect("memory"),
-        _ => cache
-            .entry(key.clone())
-            .and_compute_with(choose, at, clock)
-            .expect("memory"),
-    };
+    let selected = cache.entry(key.clone());
+    let done = selected.and_compute_with(choose, at, clock).expect("memory");
     let (is_put, is_removed) = (choice == 1, choice == 2);
     match done {
         CompResult::Inserted(entry) => assert!(is_put && seen.is_none() && entry.value == call),

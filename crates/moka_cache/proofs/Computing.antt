@@ -22,7 +22,7 @@ use Rattle.moka_calls.specs.declared.compute.ComputeRefused.{ComputeRefused}
 use Rattle.moka_calls.specs.declared.compute.CompResult.TheVariants.{Inserted, ReplacedWith}
 use Rattle.moka_calls.specs.declared.compute.ComputeRefused.TheVariants as compute_refused
 use Rattle.moka_calls.specs.Computing.{InTurn, Upserts, HandsOutUpserted, Puts, Takes, Computes, HandsOutComputedPut, HandsOutTaken}
-use Rattle.moka_cache.specs.Keyed.{IsOfChange}
+use Rattle.moka_cache.specs.Keyed.{IsNotOfNotice, IsOfChange}
 use Rattle.moka_calls.proofs.Made.{made_then, made_more}
 use Rattle.moka_cache.proofs.Entries.{same_hash}
 
@@ -141,6 +141,16 @@ module _ {K V : Type 0} (is_key_clone : K → K → Type 0) (is_clone : V → V 
   refused_put false (Ok own) (Err (compute_refused.Lookup k)) handed = absurd handed
   refused_put true (Err refused) (Err (compute_refused.Lookup k)) handed = absurd handed
   refused_put false (Err refused) (Err (compute_refused.Lookup k)) handed = absurd handed
+
+  -- and notifies nobody
+  pub put_not_told : (there : Bool) (own : Result V (InsertRefused K V)) (result : Result (CompResult K V) (ComputeRefused K V)) → HandsOutComputedPut is_key_clone is_clone key there own result → IfErr result IsNotOfNotice
+  put_not_told there own (Ok e) handed = tt
+  put_not_told there own (Err (compute_refused.Insert r)) handed = tt
+  put_not_told there own (Err (compute_refused.Lookup k)) handed = tt
+  put_not_told true (Ok own) (Err (compute_refused.NotTold k r)) handed = absurd handed
+  put_not_told false (Ok own) (Err (compute_refused.NotTold k r)) handed = absurd handed
+  put_not_told true (Err refused) (Err (compute_refused.NotTold k r)) handed = absurd handed
+  put_not_told false (Err refused) (Err (compute_refused.NotTold k r)) handed = absurd handed
 
   -- and a removal only as its listener cannot be told
   pub refused_take : (taken : Option (V × Result (Unit {0}) OutOfMemory)) (result : Result (CompResult K V) (ComputeRefused K V)) → HandsOutTaken is_key_clone is_clone key taken result → IfErr result IsOfChange

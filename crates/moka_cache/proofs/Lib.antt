@@ -19,6 +19,7 @@ pub mod Restoring
 pub mod There
 pub mod Membership
 pub mod Saving
+mod Settings
 mod EachOne
 pub use Rattle.moka_calls.proofs.Made
 pub use Rattle.moka_calls.proofs.Lists

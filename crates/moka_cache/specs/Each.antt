@@ -26,7 +26,7 @@ pub record Ran {K V S X L P W C : Type 0} (m : Meaning K V X L P W C (Unit {0}))
   pub members : HasOnlyMembers new.engine.state
   pub counted : new.stats ≡ old.stats
 
--- the caches ran one after the other, and more is left where one told so
+-- the caches ran one after the other, and more is left if one told so
 abbrev pub AllRan : {K V S X L P W C : Type 0} → Meaning K V X L P W C (Unit {0}) → Instant → C → Bool → C →
     List (Synchronous K V S X L P W) → List (Synchronous K V S X L P W) → Type 0
 AllRan m now clock more clock_after [] [] = (more ≡ false) × (clock_after ≡ clock)

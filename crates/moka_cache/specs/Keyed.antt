@@ -26,6 +26,11 @@ abbrev pub CanNotify : {K V : Type 0} → (K → Type 0) → (V → Type 0) → 
 CanNotify is_key_infallible is_infallible listening sought = listening ≡ true →
     (r : Record _ _) → sought ≡ Some r → is_key_infallible r.key × is_infallible r.value
 
+-- the same of whatever leaves
+abbrev pub CanNotifyOfAny : {K V : Type 0} → (K → Type 0) → (V → Type 0) → Bool → Type 0
+CanNotifyOfAny {K} {V} is_key_infallible is_infallible listening = listening ≡ true →
+    ((key : K) → is_key_infallible key) × ((value : V) → is_infallible value)
+
 -- it was the insert that was refused, and not the look-up before it
 abbrev pub IsOfInsert : {K V : Type 0} → GetWithRefused K V → Type 0
 IsOfInsert (Lookup key) = ⊥
@@ -35,6 +40,11 @@ IsOfInsert (Insert refused) = ⊤
 abbrev pub IsOfChange : {K V : Type 0} → ComputeRefused K V → Type 0
 IsOfChange (compute_refused.Lookup key) = ⊥
 IsOfChange refused = ⊤
+
+-- it was not the notice of a removal that was refused
+abbrev pub IsNotOfNotice : {K V : Type 0} → ComputeRefused K V → Type 0
+IsNotOfNotice (compute_refused.NotTold key refused) = ⊥
+IsNotOfNotice refused = ⊤
 
 -- of this key, which is hashed so, at this moment, with the clock before and after
 module _ {K V S X L P W C : Type 0} (m : Meaning K V X L P W C (Unit {0})) (hash_of : S → K → ℕ) (key : K)

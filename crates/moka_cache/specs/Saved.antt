@@ -73,7 +73,7 @@ AddsOnly {K} {V} items s t = (n : ℕ) (q : Record K V) → get t.records n ≡ 
     ((r : Record K V) × (get s.records n ≡ Some r) × ((g : ℕ) × (q ≡ record r { applied = g })))
     ⊎ ((item : Restored K V) × Contains items item × IsOfItem item q)
 
--- ---- where nothing but time takes a record out
+-- ---- if nothing but time takes a record out
 
 -- each member has its record, with the weight that is counted for it, and each upsert that waits has that of its record
 pub record AreAsWeighed {K V X P W : Type 0} (s : State K V X P W) : Type 0 where
@@ -125,7 +125,7 @@ has_expired settings now item = has_passed (moment_of item.expires) now
     || has_passed (deadline settings.time_to_live item.last_modified.0) now
     || has_passed (deadline settings.time_to_idle item.last_accessed.0) now
 
--- where there is room for all, each of the entries that has not expired at the moment has been put back
+-- if there is room for all, each of the entries that has not expired at the moment has been put back
 abbrev pub AreThere : {K V X P W : Type 0} → (W → K → V → ℕ → Type 0) → (K → K → Bool) → ℕ → List (Restored K V) →
     State K V X P W → State K V X P W → Type 0
 AreThere weighs eq now items s t = IsRoomyFor weighs items s

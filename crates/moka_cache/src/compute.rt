@@ -1,20 +1,19 @@
-//! Entry calls that compute a key's value from the one that is there. moka: `ops::compute`, `sync::entry_selector`.
+//! The entry call that computes what is to be done from the value that is there. moka: `ops::compute`.
 ghost use Rattle.std.specs.Prelude.{◌≡◌, Option, Some, None, Result, Ok, Err, IfErr, option_copied, option_map};
 ghost use Rattle.moka_records.specs.Records.{record_of_key};
 ghost use Rattle.moka_types.specs.declared.error.InsertRefused.{InsertRefused};
 ghost use Rattle.moka_types.specs.declared.error.OutOfMemory.{OutOfMemory};
-ghost use Rattle.moka_calls.specs.Computing.{HandsOutComputedPut, HandsOutTaken, AndUpserts, AndComputes};
+ghost use Rattle.moka_calls.specs.Computing.{HandsOutComputedPut, HandsOutTaken, AndComputes};
 ghost use Rattle.moka_calls.specs.Given.{Sees};
 ghost use Rattle.moka_records.specs.Hashing.{key_hash};
 ghost use Rattle.moka_engine.specs.Looks.{CanHandOutValue};
-ghost use Rattle.moka_cache.specs.Keyed.{IsOfChange, IsOfInsert};
+ghost use Rattle.moka_cache.specs.Keyed.{CanNotifyOfAny, IsNotOfNotice, IsOfChange};
 ghost use Rattle.moka_calls.specs.Synchronous.{InsertsMade, Makes, RemovesEntry, hears_clones, meaning_of};
 
 use crate::cache::{Cache, Put};
 use moka_calls::answers::found;
 pub use moka_calls::compute::{CompResult, ComputeRefused, Op};
-use moka_calls::entry::CacheEntry;
-use moka_calls::error::{GetWithRefused, NotTold};
+use moka_calls::error::NotTold;
 use moka_parts::closures::{PredicateFn, Weigher};
 use moka_parts::error::{InsertRefused, OutOfMemory};
 use moka_parts::housekeeper::Clock;
@@ -31,65 +30,8 @@ impl<
     W: Weigher<K, V>,
     S: BuildHasher,
 > Cache<K, V, X, L, P, W, S> {
-    /// Puts the value that `f` makes of a clone of the key's value, or of `None` if the key is not there or not visible
-    /// at the moment `now`. No load is counted. moka: `and_upsert_with`.
-    ///
-    /// ```text
-    /// let one_more = |seen: Option<u64>| seen.unwrap_or(0).saturating_add(1);
-    /// let count = cache.upsert_with(page, one_more, now, &mut clock)?.value;
-    /// ```
-    ///
-    /// # Errors
-    /// `Lookup`, with the key, if memory for the clone of the value that is there is refused; `f` was not called. And
-    /// `Insert`, with key and the value that was made, as `get_or_insert_with`; what is there was left.
-    pub fn upsert_with<F: FnOnce(Option<V>) -> V, C: Clock>(
-        &mut self,
-        key: K,
-        f: F,
-        now: Instant,
-        clock: &mut C,
-    ) -> Result<CacheEntry<K, V>, GetWithRefused<K, V>>
-    where
-        K: Clone + Drop,
-        V: Clone + Drop,
-        P: Drop,
-        requires callable { (seen : Option V) → Sees K.eq P.says V.is_clone self.old.engine.state key now.0 seen
-            → F.pre f seen }
-        ensures step { AndUpserts (meaning_of K.eq L.tells P.says W.weighs C.reads X.created X.read X.updated)
-            K.is_clone V.is_clone key
-            (key_hash S.BuildHasher S.Hasher.Hasher self.old.engine.hasher (K.hash_input key)) now
-            self.old clock.old self.new clock.new (F.post f) result }
-        ensures looks_up { CanHandOutValue V.is_infallible
-            (record_of_key K.eq self.old.engine.state.records key) → IfErr result IsOfInsert }
-    {
-        let hash = self.hash_of(&key);
-        let Ok(seen) = self.get_hashed(&key, hash, now, clock) else {
-            return Err(GetWithRefused::Lookup(key));
-        };
-        let is_there = seen.is_some();
-        let value = f(seen);
-        Ok(self.insert_entry(Put { key, hash, value }, is_there, now, clock)?)
-    }
-
-    /// Puts a value, takes the key out, or does nothing, as `f` answers, which sees a clone of the key's value, or
-    /// `None` if the key is not there or not visible at the moment `now`. A removal hands its value out, and the
-    /// listener, if one is set, is notified. No load is counted. moka: `and_compute_with`.
-    ///
-    /// ```text
-    /// let remove_full = |seen: Option<&u64>| match seen {
-    ///     Some(count) if *count >= 100 => Op::Remove,
-    ///     _ => Op::Nop,
-    /// };
-    /// let is_removed = matches!(
-    ///     cache.compute_with(page, remove_full, now, &mut clock)?,
-    ///     CompResult::Removed(_)
-    /// );
-    /// ```
-    ///
-    /// # Errors
-    /// `Lookup`, with the key, if memory for the clone of the value that is there is refused; `f` was not called. And
-    /// `Insert` and `NotTold`, with key and value.
-    pub fn compute_with<F: FnOnce(Option<&V>) -> Op<V>, C: Clock>(
+    // `OwnedKeyEntrySelector::and_compute_with`, of this key.
+    pub(crate) fn compute_with<F: FnOnce(Option<&V>) -> Op<V>, C: Clock>(
         &mut self,
         key: K,
         f: F,
@@ -110,6 +52,8 @@ impl<
             × F.post f x op) result }
         ensures looks_up { CanHandOutValue V.is_infallible
             (record_of_key K.eq self.old.engine.state.records key) → IfErr result IsOfChange }
+        ensures notified { CanNotifyOfAny K.is_infallible V.is_infallible self.old.engine.state.settings.listening
+            → IfErr result IsNotOfNotice }
     {
         let hash = self.hash_of(&key);
         let Ok(seen) = self.get_hashed(&key, hash, now, clock) else {
@@ -183,6 +127,8 @@ impl<
             self.old.engine clock.old self.new.engine clock.new
             × (option_map (λ t. t.0) taken
             ≡ option_map (λ r. r.value) (record_of_key K.eq self.old.engine.state.records key)) }
+        ensures notified { CanNotifyOfAny K.is_infallible V.is_infallible self.old.engine.state.settings.listening
+            → IfErr result IsNotOfNotice }
         ensures gone { record_of_key K.eq self.new.engine.state.records key ≡ None }
         ensures counted { self.new.stats ≡ self.old.stats }
     {

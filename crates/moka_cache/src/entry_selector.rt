@@ -1,6 +1,5 @@
-//! Entry calls by moka's names: `cache.entry(key)` hands out a selector, and each of its methods is one call of the
-//! cache.
-//! moka: `sync::entry_selector`.
+//! Entry calls: `cache.entry(key)` hands out a selector, each of whose methods is a look-up and what follows it, in one
+//! call. moka: `sync::entry_selector`.
 ghost use Rattle.std.specs.Prelude.{◌≡◌, false, true, IfErr, IsOk, Option, Result, option_copied};
 ghost use Rattle.moka_parts.specs.Calls.{ContainsStep};
 ghost use Rattle.moka_types.specs.declared.error.InsertRefused.{InsertRefused};
@@ -10,15 +9,16 @@ ghost use Rattle.moka_calls.specs.Given.{Sees};
 ghost use Rattle.moka_records.specs.Hashing.{key_hash};
 ghost use Rattle.moka_records.specs.Records.{record_of_key};
 ghost use Rattle.moka_engine.specs.Looks.{CanHandOutValue};
-ghost use Rattle.moka_cache.specs.Keyed.{IsOfChange, IsOfInsert};
+ghost use Rattle.moka_cache.specs.Keyed.{CanNotifyOfAny, IsNotOfNotice, IsOfChange, IsOfInsert};
 ghost use Rattle.moka_calls.specs.Synchronous.{meaning_of, hears_clones};
 
-use crate::cache::Cache;
+use crate::cache::{Cache, Put};
 use crate::compute::{CompResult, ComputeRefused, Op};
 use crate::entry::CacheEntry;
+use moka_calls::answers::{always_made, found, if_made};
 use moka_calls::error::GetWithRefused;
 use moka_parts::closures::{PredicateFn, Weigher};
-use moka_parts::error::InsertRefused;
+use moka_parts::error::{InsertError, InsertRefused};
 use moka_parts::housekeeper::Clock;
 use moka_parts::notification::Listener;
 use moka_parts::policy::{Expiry, Instant};
@@ -66,11 +66,12 @@ impl<
     W: Weigher<K, V>,
     S: BuildHasher,
 > OwnedKeyEntrySelector<'a, K, V, X, L, P, W, S> {
-    /// The key's entry, with a clone of its value, if it is there and visible at the moment `now`; and else `value` is
-    /// inserted. moka: `or_insert`.
+    /// The key's entry, with a clone of its value, if the key is there and visible at the moment `now`; else `value` is
+    /// inserted. If the key is there, `value` is dropped. No load is counted. moka: `or_insert`.
     ///
     /// # Errors
-    /// As `Cache::get_or_insert`.
+    /// `OutOfMemory` if memory for a clone or for the insert is refused, and `NumbersUsedUp`; key and value come back,
+    /// and nothing was inserted.
     pub fn or_insert<C: Clock>(
         self,
         value: V,
@@ -90,14 +91,24 @@ impl<
             (record_of_key K.eq self.entry.cache.now.engine.state.records self.entry.key) → IsOk result }
     {
         let OwnedKeyEntrySelector { cache, key } = self;
-        cache.get_or_insert(key, value, now, clock)
+        let hash = cache.hash_of(&key);
+        match cache.get_hashed(&key, hash, now, clock) {
+            Ok(Some(value)) => return Ok(found(key, value)),
+            Ok(None) => {}
+            Err(_) => {
+                let error = InsertError::OutOfMemory;
+                return Err(InsertRefused { error, key, value });
+            }
+        }
+        cache.insert_entry(Put { key, hash, value }, false, now, clock)
     }
 
-    /// As `or_insert`, for the value that `init` makes, which is called only if the key is not there. moka:
-    /// `or_insert_with`.
+    /// As `or_insert`, for the value that `init` makes, which is inserted at the moment `now` as by `Cache::get_with`.
+    /// `init` is called only if the key is not there. moka: `or_insert_with`.
     ///
     /// # Errors
-    /// As `Cache::get_or_insert_with`.
+    /// `Lookup`, with the key, if memory for the clone of a value that is there is refused; and `Insert`, with key and
+    /// the value that was made, if memory for a clone of either or for the insert is refused, or tickets are used up.
     pub fn or_insert_with<F: FnOnce() -> V, C: Clock>(
         self,
         init: F,
@@ -116,15 +127,14 @@ impl<
         ensures looks_up { CanHandOutValue V.is_infallible
             (record_of_key K.eq self.entry.cache.now.engine.state.records self.entry.key) → IfErr result IsOfInsert }
     {
-        let OwnedKeyEntrySelector { cache, key } = self;
-        cache.get_or_insert_with(key, init, now, clock)
+        always_made(self.or_try_insert_with(|| Ok(init()), now, clock))
     }
 
     /// As `or_insert_with`, for a maker that may decline: then nothing is inserted, and `None` is answered. moka:
     /// `or_optionally_insert_with`.
     ///
     /// # Errors
-    /// As `Cache::get_or_insert_with`.
+    /// As `or_insert_with`.
     pub fn or_optionally_insert_with<F: FnOnce() -> Option<V>, C: Clock>(
         self,
         init: F,
@@ -143,15 +153,15 @@ impl<
         ensures looks_up { CanHandOutValue V.is_infallible
             (record_of_key K.eq self.entry.cache.now.engine.state.records self.entry.key) → IfErr result IsOfInsert }
     {
-        let OwnedKeyEntrySelector { cache, key } = self;
-        cache.get_or_optionally_insert_with(key, init, now, clock)
+        if_made(self.or_try_insert_with(|| init().ok_or(()), now, clock))
     }
 
     /// As `or_insert_with`, for a maker that may fail: then nothing is inserted, and its error is answered. moka:
     /// `or_try_insert_with`.
     ///
     /// # Errors
-    /// The outer error as `Cache::get_or_insert_with`; the inner one is the maker's.
+    /// The outer error as `or_insert_with`; the inner one is the maker's.
+    #[inline(always)]
     pub fn or_try_insert_with<E, F: FnOnce() -> Result<V, E>, C: Clock>(
         self,
         init: F,
@@ -171,14 +181,35 @@ impl<
             (record_of_key K.eq self.entry.cache.now.engine.state.records self.entry.key) → IfErr result IsOfInsert }
     {
         let OwnedKeyEntrySelector { cache, key } = self;
-        cache.get_or_try_insert_with(key, init, now, clock)
+        let hash = cache.hash_of(&key);
+        match cache.get_hashed(&key, hash, now, clock) {
+            Ok(Some(value)) => return Ok(Ok(found(key, value))),
+            Ok(None) => {}
+            Err(_) => return Err(GetWithRefused::Lookup(key)),
+        }
+        cache.count_load();
+        let value = match init() {
+            Ok(value) => value,
+            Err(error) => return Ok(Err(error)),
+        };
+        let entry = match cache.insert_entry(Put { key, hash, value }, false, now, clock) {
+            Ok(entry) => entry,
+            Err(refused) => return Err(GetWithRefused::Insert(refused)),
+        };
+        Ok(Ok(entry))
     }
 
     /// Puts the value that `f` makes of a clone of the key's value, or of `None` if the key is not there or not visible
-    /// at the moment `now`. moka: `and_upsert_with`.
+    /// at the moment `now`. No load is counted. moka: `and_upsert_with`.
+    ///
+    /// ```text
+    /// let one_more = |seen: Option<u64>| seen.unwrap_or(0).saturating_add(1);
+    /// let entry = cache.entry(page).and_upsert_with(one_more, now, &mut clock)?;
+    /// ```
     ///
     /// # Errors
-    /// As `Cache::upsert_with`.
+    /// `Lookup`, with the key, if memory for the clone of the value that is there is refused; `f` was not called. And
+    /// `Insert`, with key and the value that was made, as `or_insert_with`; what is there was left.
     pub fn and_upsert_with<F: FnOnce(Option<V>) -> V, C: Clock>(
         self,
         f: F,
@@ -199,14 +230,31 @@ impl<
             (record_of_key K.eq self.entry.cache.now.engine.state.records self.entry.key) → IfErr result IsOfInsert }
     {
         let OwnedKeyEntrySelector { cache, key } = self;
-        cache.upsert_with(key, f, now, clock)
+        let hash = cache.hash_of(&key);
+        let Ok(seen) = cache.get_hashed(&key, hash, now, clock) else {
+            return Err(GetWithRefused::Lookup(key));
+        };
+        let is_there = seen.is_some();
+        let value = f(seen);
+        Ok(cache.insert_entry(Put { key, hash, value }, is_there, now, clock)?)
     }
 
     /// Puts a value, takes the key out, or does nothing, as `f` answers, which sees a clone of the key's value, or
-    /// `None` if the key is not there or not visible at the moment `now`. moka: `and_compute_with`.
+    /// `None` if the key is not there or not visible at the moment `now`. A removal hands its value out, and the
+    /// listener, if one is set, is notified. No load is counted. moka: `and_compute_with`.
+    ///
+    /// ```text
+    /// let remove_full = |seen: Option<&u64>| match seen {
+    ///     Some(count) if *count >= 100 => Op::Remove,
+    ///     _ => Op::Nop,
+    /// };
+    /// let done = cache.entry(page).and_compute_with(remove_full, now, &mut clock)?;
+    /// let is_removed = matches!(done, CompResult::Removed(_));
+    /// ```
     ///
     /// # Errors
-    /// As `Cache::compute_with`.
+    /// `Lookup`, with the key, if memory for the clone of the value that is there is refused; `f` was not called. And
+    /// `Insert` and `NotTold`, with key and value.
     pub fn and_compute_with<F: FnOnce(Option<&V>) -> Op<V>, C: Clock>(
         self,
         f: F,
@@ -228,6 +276,8 @@ impl<
             × F.post f x op) result }
         ensures looks_up { CanHandOutValue V.is_infallible
             (record_of_key K.eq self.entry.cache.now.engine.state.records self.entry.key) → IfErr result IsOfChange }
+        ensures notified { CanNotifyOfAny K.is_infallible V.is_infallible
+            self.entry.cache.now.engine.state.settings.listening → IfErr result IsNotOfNotice }
     {
         let OwnedKeyEntrySelector { cache, key } = self;
         cache.compute_with(key, f, now, clock)

@@ -1,10 +1,11 @@
 //! Calls for many keys at once. Each makes the call for one key after the other, in order, and stops at the first that
 //! is refused.
-ghost use Rattle.std.specs.Prelude.{◌≡◌};
+ghost use Rattle.std.specs.Prelude.{◌≡◌, [], IfErr, IsOk};
 ghost use Rattle.moka_parts.specs.Counters.{after_look_ups};
 ghost use Rattle.moka_records.specs.Hashing.{key_hash};
 ghost use Rattle.moka_calls.specs.Many.{GetsMany, InsertsMany, InvalidatesMany, found_by};
 ghost use Rattle.moka_calls.specs.Synchronous.{Makes, hears_clones, meaning_of};
+ghost use Rattle.moka_cache.specs.Keyed.{CanNotifyOfAny};
 
 use crate::cache::Cache;
 pub use moka_calls::many::{GetManyRefused, InsertManyRefused, InvalidateManyRefused};
@@ -44,6 +45,8 @@ impl<
             (GetsMany V.is_clone (λ key.
             key_hash S.BuildHasher S.Hasher.Hasher self.old.engine.hasher (K.hash_input key)) now keys.now result)
             self.old.engine clock.old self.new.engine clock.new }
+        ensures looks_up { ((value : V) → V.is_infallible value) → IfErr result (λ refused. (refused.found.items ≡ [])
+            × (self.new.engine.state ≡ self.old.engine.state) × (clock.new ≡ clock.old)) }
         ensures counted { self.new.stats ≡ after_look_ups (found_by result) self.old.stats }
     {
         let Ok(mut found) = Vec::with_capacity(alloc, keys.len()) else {
@@ -120,6 +123,8 @@ impl<
             (InvalidatesMany (λ key. key_hash S.BuildHasher S.Hasher.Hasher self.old.engine.hasher (K.hash_input key))
             now keys.now result)
             self.old.engine clock.old self.new.engine clock.new }
+        ensures succeeds { CanNotifyOfAny K.is_infallible V.is_infallible self.old.engine.state.settings.listening
+            → IsOk result }
         ensures counted { self.new.stats ≡ self.old.stats }
     {
         let mut rest = keys;

@@ -154,7 +154,7 @@ module _ {K V S X L P W C : Type 0} (m : Meaning K V X L P W C (Unit {0})) (is_k
       × IfErr result (ComesBack old.engine.state new.engine.state key
       (λ value. (seen : Option V) × (got ≡ Ok seen) × Answers seen value))
 
-  -- the same, and what it answers is done; where that takes the key out, no record of it is left, and what was seen is
+  -- the same, and what it answers is done; if that takes the key out, no record of it is left, and what was seen is
   -- a clone of what was taken
   abbrev pub AndComputes : (Option V → Op V → Type 0) → Result (CompResult K V) (ComputeRefused K V) → Type 0
   AndComputes Answers result = (own : Result (Option V) OutOfMemory) × (got : Result (Option V) OutOfMemory)

@@ -57,7 +57,7 @@ pub record IsCounted {K V P : Type 0} (replies : List (Reply K V P)) (makers : �
 
 -- ---- laws
 
--- where such calls were made, the counters rose from the first to the second by their look-ups, and by so many calls of
+-- if such calls were made, the counters rose from the first to the second by their look-ups, and by so many calls of
 -- makers
 abbrev pub Counts : {K V P : Type 0} → (List (Call K V P) → List (Reply K V P) → Type 0) → ℕ → Stats → Stats → Type 0
 Counts {K} {V} {P} Fit makers s t = (calls : List (Call K V P)) (replies : List (Reply K V P)) → AreCounters s →

@@ -1,4 +1,4 @@
--- What a look-up sees, and what a call hands out that makes a value where none is seen.
+-- What a look-up sees, and what a call hands out that makes a value if none is seen.
 use Rattle.std.specs.Prelude.{◌≡◌, ℕ, Bool, false, Option, Some, None, Result, Ok, Err, ◌⊎◌}
 use Rattle.moka_records.specs.declared.records.Record.{Record}
 use Rattle.moka_parts.specs.Calls.{ContainsStep}
@@ -42,7 +42,7 @@ if_made (Ok (Ok made)) = Ok (Some made)
 if_made (Ok (Err declined)) = Ok None
 if_made (Err refused) = Err refused
 
--- what a call answers whose maker may fail, where it does not
+-- what a call answers whose maker may fail, if it does not
 abbrev pub without_error : {A E F : Type 0} → Result A E → Result (Result A F) E
 without_error (Ok made) = Ok (Ok made)
 without_error (Err refused) = Err refused

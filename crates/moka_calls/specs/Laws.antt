@@ -78,7 +78,7 @@ module _ {K V X L P W C : Type 0} (S : Type 0) (m : Meaning K V X L P W C (Unit 
       Made m calls replies old clock new clock_after →
       Drives m calls replies old clock tt new clock_after tt
 
-  -- from an empty cache, where no insert is earlier than a write that is there, each run that is not cut also removes
+  -- from an empty cache, if no insert is earlier than a write that is there, each run that is not cut also removes
   -- what is past its time
   abbrev pub MadeRunsAgeOut : Type 0
   MadeRunsAgeOut = (calls : List (Call K V P)) (replies : List (Reply K V P)) (old new : Engine K V S X L P W)
@@ -87,7 +87,7 @@ module _ {K V X L P W C : Type 0} (S : Type 0) (m : Meaning K V X L P W C (Unit 
       (made : Made m calls replies old clock new clock_after) → AreTimely old.state made.steps →
       AreSteps m (OrderlyRun m.says m.read) old.state made.steps
 
-  -- the same, where inserts come in the order of time
+  -- the same, if inserts come in the order of time
   abbrev pub RunsAgeOutInTime : Type 0
   RunsAgeOutInTime = (calls : List (Call K V P)) (replies : List (Reply K V P)) (old new : Engine K V S X L P W)
       (clock clock_after : C) → IsValid m.eq old.state → IsEmpty old.state →
@@ -102,7 +102,7 @@ module _ {K V X L P W C : Type 0} (S : Type 0) (m : Meaning K V X L P W C (Unit 
       → Made (record m { tells = hears_clones is_key_clone is_value_clone m.tells }) calls
       replies old clock new clock_after
 
-  -- and where clones equal what was cloned, of keys and values themselves
+  -- and if clones equal what was cloned, of keys and values themselves
   abbrev pub HearsThemselves : (K → K → Type 0) → (V → V → Type 0) → Type 0
   HearsThemselves is_key_clone is_value_clone = ClonesAreEqual is_key_clone → ClonesAreEqual is_value_clone →
       (calls : List (Call K V P)) (replies : List (Reply K V P))

@@ -60,7 +60,7 @@ module _ {K V P : Type 0} (is_clone : V → V → Type 0) (hash_of : K → ℕ) 
   GetsItem item calls replies = (own : Option V) × IsCopy is_clone own item.1
       × GetsValue item.0 (hash_of item.0) now (Ok own) calls replies
 
-  -- a look-up of each key; or of those before the one that is refused, or of none where there is no room for the
+  -- a look-up of each key; or of those before the one that is refused, or of none if there is no room for the
   -- answers
   abbrev pub GetsMany : List K → Result (Vec (Option V) Global) (GetManyRefused V) → List (Call K V P) →
       List (Reply K V P) → Type 0

@@ -98,7 +98,7 @@ module _ {K V P : Type 0} where
   abbrev pub own_run : Instant → Call K V P
   own_run now = call.Run now None 4 384
 
-  -- a ticket is posted: a run if one is due, and a send; where the queue is full another run and another send
+  -- a ticket is posted: a run if one is due, and a send; if the queue is full another run and another send
   abbrev pub Posts : Instant → Ticket → List (Call K V P) → List (Reply K V P) → Type 0
   Posts now ticket calls replies =
       ((calls ≡ call.RunIfDue now ∷ call.Send ticket ∷ []) × (replies ≡ reply.RunIfDue ∷ reply.Send (Ok tt) ∷ []))
@@ -153,7 +153,7 @@ module _ {K V P : Type 0} where
       ((refused ≡ record { error = insert_error.OutOfMemory; key = key; value = made }) × (calls ≡ []) × (replies ≡ []))
       ⊎ InsertsEntry key hash made now (Err refused) calls replies
 
-  -- a get, and only where it misses a value is made: the value that was made, the answer, with nothing where the
+  -- a get, and only if it misses a value is made: the value that was made, the answer, with nothing if the
   -- look-up was refused, and the calls
   abbrev pub GetsOrInserts : K → ℕ → Instant → Option V → Result V (Option (InsertRefused K V)) → List (Call K V P) →
       List (Reply K V P) → Type 0
@@ -166,7 +166,7 @@ module _ {K V P : Type 0} where
       GetsThen key hash now (InsertsMade key hash now made (Err refused)) calls replies
   GetsOrInserts key hash now made own calls replies = ⊥
 
-  -- the same, where the maker may decline: then the get alone
+  -- the same, if the maker may decline: then the get alone
   abbrev pub GetsOrInsertsIfMade : K → ℕ → Instant → Option (Option V) →
       Result (Option V) (Option (InsertRefused K V)) → List (Call K V P) → List (Reply K V P) → Type 0
   GetsOrInsertsIfMade key hash now None (Ok (Some value)) calls replies =
@@ -180,7 +180,7 @@ module _ {K V P : Type 0} where
       GetsOrInserts key hash now (Some made) (Err refused) calls replies
   GetsOrInsertsIfMade key hash now made own calls replies = ⊥
 
-  -- the same, where the maker may fail: then the get alone, and the maker's error is the answer
+  -- the same, if the maker may fail: then the get alone, and the maker's error is the answer
   abbrev pub GetsOrInsertsIfNoError : {E : Type 0} → K → ℕ → Instant → Option (Result V E) →
       Result (Result V E) (Option (InsertRefused K V)) → List (Call K V P) → List (Reply K V P) → Type 0
   GetsOrInsertsIfNoError key hash now None (Ok (Ok value)) calls replies =
@@ -208,7 +208,7 @@ abbrev pub taken_out : {V : Type 0} → Result (Option V) (NotTold V) → Option
 taken_out (Ok value) = value
 taken_out (Err refused) = Some refused.value
 
--- what an invalidation answers: the value alone where it was not told
+-- what an invalidation answers: the value alone if it was not told
 abbrev pub invalidated : {V : Type 0} → Option (V × Result (Unit {0}) OutOfMemory) → Result (Unit {0}) (NotTold V)
 invalidated None = Ok tt
 invalidated (Some (value, Ok told)) = Ok tt
@@ -228,7 +228,7 @@ HandsOutOwn is_clone (Ok own) (Ok value) = is_clone own value
 HandsOutOwn is_clone (Err refused) (Err r) = r ≡ refused
 HandsOutOwn is_clone own result = ⊥
 
--- the same where the maker may decline
+-- the same if the maker may decline
 abbrev pub HandsOutIfMade : {K V : Type 0} → (V → V → Type 0) → K → Result (Option V) (Option (InsertRefused K V)) →
     Result (Option V) (GetWithRefused K V) → Type 0
 HandsOutIfMade is_clone key (Ok (Some own)) (Ok (Some value)) = is_clone own value
@@ -249,7 +249,7 @@ HandsOutIfNoError is_clone key own result = ⊥
 module _ {K V S X L P W C : Type 0} (m : Meaning K V X L P W C (Unit {0})) (is_clone : V → V → Type 0) (key : K)
     (hash : ℕ) (now : Instant) (old : Synchronous K V S X L P W) (clock : C)
     (new : Synchronous K V S X L P W) (clock_after : C) where
-  -- where this was made of a get that missed, as the maker makes it: the calls that were made, and what was counted;
+  -- if this was made of a get that missed, as the maker makes it: the calls that were made, and what was counted;
   -- and what is handed out, or comes back
   abbrev pub IsGotWith : Option V → Result V (Option (InsertRefused K V)) → (V → Type 0)
       → Result V (GetWithRefused K V) → Type 0
@@ -260,7 +260,7 @@ module _ {K V S X L P W C : Type 0} (m : Meaning K V X L P W C (Unit {0})) (is_c
       × IfOk result (IsHandedOut m.eq m.says is_clone old.engine.state key now.0 Answers)
       × IfErr result (ComesBack old.engine.state new.engine.state key Answers)
 
-  -- the same where the maker may decline
+  -- the same if the maker may decline
   abbrev pub IsGotWithIfMade : Option (Option V) → Result (Option V) (Option (InsertRefused K V)) → (Option V → Type 0)
       → Result (Option V) (GetWithRefused K V) → Type 0
   IsGotWithIfMade made own Answers result = ((answer : Option V) → made ≡ Some answer → Answers answer)
@@ -284,12 +284,12 @@ module _ {K V S X L P W C : Type 0} (m : Meaning K V X L P W C (Unit {0})) (is_c
       × IfErr found (λ e. Answers (Err e)))
       × IfErr result (ComesBack old.engine.state new.engine.state key (λ v. Answers (Ok v)))
 
-  -- a get, and only where it misses a value is made
+  -- a get, and only if it misses a value is made
   abbrev pub GetsWith : (V → Type 0) → Result V (GetWithRefused K V) → Type 0
   GetsWith Answers result =
       (made : Option V) × (own : Result V (Option (InsertRefused K V))) × IsGotWith made own Answers result
 
-  -- the same where the maker may decline
+  -- the same if the maker may decline
   abbrev pub GetsWithIfMade : (Option V → Type 0) → Result (Option V) (GetWithRefused K V) → Type 0
   GetsWithIfMade Answers result = (made : Option (Option V)) × (own : Result (Option V) (Option (InsertRefused K V)))
       × IsGotWithIfMade made own Answers result

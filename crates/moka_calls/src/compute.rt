@@ -5,18 +5,18 @@ use moka_parts::error::{InsertRefused, OutOfMemory};
 use std::error::Error;
 use std::fmt;
 
-/// What a closure of `compute_with` answers. moka: `ops::compute::Op`.
+/// What a closure of `and_compute_with` answers. moka: `ops::compute::Op`.
 #[derive(Debug, Drop)]
 pub enum Op<V> {
     /// Do no more than the look-up did.
     Nop,
     /// Put this value under the key.
     Put(V),
-    /// Take the key out.
+    /// Take the key out, if the closure saw a value.
     Remove,
 }
 
-/// What `compute_with` did. moka: `ops::compute::CompResult`.
+/// What `and_compute_with` did. moka: `ops::compute::CompResult`.
 #[derive(Debug, Drop)]
 pub enum CompResult<K, V> {
     /// The value was put, and the closure had seen none. A cache of capacity 0 answers this too, and drops it.
@@ -25,13 +25,13 @@ pub enum CompResult<K, V> {
     ReplacedWith(CacheEntry<K, V>),
     /// The key was taken out, with this value.
     Removed(CacheEntry<K, V>),
-    /// No value was put, and none is there that could be taken out. The key comes back.
+    /// No value was put, and none was seen, or what was seen has left already. The key comes back.
     StillNone(K),
     /// Nothing was done, and the closure had seen this value.
     Unchanged(CacheEntry<K, V>),
 }
 
-/// Why `compute_with` did not do what was answered.
+/// Why `and_compute_with` did not do what was answered.
 #[derive(Debug, Drop)]
 pub enum ComputeRefused<K, V> {
     /// Memory for a clone of the value that is there was refused. Nothing has changed, and the key comes back.

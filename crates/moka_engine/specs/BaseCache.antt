@@ -63,12 +63,12 @@ empty_engine name hasher settings capacity now first_ticket listener room = reco
   room = room;
 }
 
--- where predicates are not supported none is registered, and without an expiry no record has one of its own
+-- if predicates are not supported none is registered, and without an expiry no record has one of its own
 pub record IsServed {K V X P W : Type 0} (s : State K V X P W) : Type 0 where
   pub unsupported : s.settings.invalidator ≡ false → s.predicates ≡ []
   pub unexpiring : s.settings.expiry ≡ None → NoneExpires s.records
 
--- the store keeps the order of writing and timers where the settings ask for them; where no hit renews an expiry, the
+-- the store keeps the order of writing and timers if the settings ask for them; if no hit renews an expiry, the
 -- timer of each settled member stands at its record's
 pub record IsStocked {K V X W S : Type 0} (read : X → K → V → ℕ → Option ℕ → ℕ → Option ℕ) (settings : Settings X W)
     (kept : Kept K V S) : Type 0 where
@@ -76,7 +76,7 @@ pub record IsStocked {K V X W S : Type 0} (read : X → K → V → ℕ → Opti
   pub timed : kept.timed ≡ is_some settings.expiry
   pub timers : NeverRenews read settings.expiry → kept.timed ≡ true → AreTimed kept
 
--- the state is a valid one, and the settings listen exactly where a listener is set
+-- the state is a valid one, and the settings listen exactly if a listener is set
 pub record IsCache {K V X L P W : Type 0} (eq : K → K → Bool) (listener : Option L) (s : State K V X P W) : Type 0 where
   pub valid : IsValid eq s
   pub served : IsServed s

@@ -10,7 +10,7 @@ use Rattle.moka_records.specs.Records.{Records}
 use Rattle.moka_parts.specs.State.{State, Events, is_disabled}
 use Rattle.moka_lookups.specs.Looks.{ClonesSucceed}
 
--- what a look-up that is recorded answers, and what it does, where the key has the record sought: in a disabled cache
+-- what a look-up that is recorded answers, and what it does, if the key has the record sought: in a disabled cache
 -- nothing, and else what a get does whose test answered so
 module _ {K V X P W : Type 0} (says : P → K → V → Bool → Type 0) (read : X → K → V → ℕ → Option ℕ → ℕ → Option ℕ)
     (sought : Records K V → Option (Record K V)) (hash : ℕ) (need_key ignored : Bool) (now : ℕ)

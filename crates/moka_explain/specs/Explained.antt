@@ -22,7 +22,7 @@ use Rattle.moka_explain.specs.declared.explain.Answer.TheVariants as answer
 use Rattle.moka_explain.specs.Grounds.{HasGround}
 use Rattle.moka_explain.specs.Looks.{IsLook}
 
--- what is worth asking about a call; where runs start by themselves, a get may make one
+-- what is worth asking about a call; if runs start by themselves, a get may make one
 abbrev pub question_of : Bool → CallText → Question
 question_of automatic (call.Get key hash need_key now) = if automatic
     then question.Both key now else question.Key key now

@@ -1,3 +1,5 @@
 mod Arrivals
+mod Capacities
+mod Limits
 mod NextReads
 mod Playing

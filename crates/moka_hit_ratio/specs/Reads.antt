@@ -4,7 +4,7 @@ use Rattle.moka_engine.specs.Calls.{ContainsStep}
 use Rattle.moka_engine.specs.State.{State}
 use Rattle.moka_hit_ratio.specs.declared.tally.Tally.{Tally}
 
--- whether the cache holds the key, where no predicate covers anything
+-- whether the cache holds the key, if no predicate covers anything
 abbrev pub IsKept : {V X P W : Type 0} → State ℕ V X P W → ℕ → Bool → Type 0
 IsKept s key found = ContainsStep (λ _ _ _ answer. answer ≡ false) (λ a b. a == b) s key 0 found
 

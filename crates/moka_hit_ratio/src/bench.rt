@@ -1,8 +1,10 @@
 //! The caches that a trace is played through, and what comes of it.
-ghost use Rattle.std.specs.Prelude.{◌≡◌, Bool, length, vec_len, Some, IfOk};
-ghost use Rattle.moka_hit_ratio.specs.Reads.{CountsIf, IsKept};
+ghost use Rattle.std.specs.Prelude.{◌≡◌, ◌+◌, ◌-◌, ◌^◌, Bool, [], length, map, vec_len, Some, None, IfOk, min};
+ghost use Rattle.moka_cache.specs.Limits.{HasSameLimits};
 ghost use Rattle.moka_engine.specs.parts.EvictionPolicy.TheVariants.{Lru, TinyLfu};
-ghost use Rattle.moka_hit_ratio.specs.Fifo.{is_kept};
+ghost use Rattle.moka_engine.specs.Runs.{IsEmpty};
+ghost use Rattle.moka_hit_ratio.specs.Fifo.{after_read, is_kept};
+ghost use Rattle.moka_hit_ratio.specs.Reads.{CountsIf, IsKept};
 
 use crate::fifo::Fifo;
 use crate::optimum;
@@ -41,6 +43,10 @@ impl Caches {
         ensures lru { IfOk result (λ c. (c.lru.cache.engine.state.capacity ≡ Some capacity)
             × (c.lru.cache.engine.state.settings.policy ≡ Lru)) }
         ensures fifo { IfOk result (λ c. c.fifo.capacity ≡ capacity) }
+        ensures empty { IfOk result (λ c. IsEmpty c.tiny_lfu.cache.engine.state × IsEmpty c.lru.cache.engine.state
+            × (c.fifo.queue.items ≡ [])) }
+        ensures row { IfOk result (λ c. (c.row.capacity ≡ capacity) × (c.row.optimum ≡ None)
+            × (c.row.tiny_lfu.reads ≡ 0) × (c.row.lru.reads ≡ 0) × (c.row.fifo.reads ≡ 0)) }
     {
         let none = Tally::new();
         Ok(Caches {
@@ -65,6 +71,12 @@ impl Caches {
             × CountsIf is_counted found self.old.row.lru self.new.row.lru) }
         ensures fifo { IfOk result (λ _. CountsIf is_counted (is_kept key self.old.fifo.queue.items)
             self.old.row.fifo self.new.row.fifo) }
+        ensures queue { IfOk result (λ _. self.new.fifo.queue.items
+            ≡ after_read self.old.fifo.capacity key self.old.fifo.queue.items) }
+        ensures limits { HasSameLimits self.old.tiny_lfu.cache.engine.state self.new.tiny_lfu.cache.engine.state
+            × HasSameLimits self.old.lru.cache.engine.state self.new.lru.cache.engine.state
+            × (self.new.fifo.capacity ≡ self.old.fifo.capacity) }
+        ensures row { (self.new.row.capacity ≡ self.old.row.capacity) × (self.new.row.optimum ≡ self.old.row.optimum) }
     {
         let tiny_lfu = self.tiny_lfu.read(key)?;
         let lru = self.lru.read(key)?;
@@ -108,7 +120,9 @@ impl Bench {
     /// # Errors
     /// What memory was refused for.
     pub fn new(alloc: Global, capacities: &[u64], warm: u64, has_optimum: bool) -> Result<Self>
-        ensures { IfOk result (λ bench. vec_len bench.caches ≡ length capacities.now) }
+        ensures caches { IfOk result (λ bench. vec_len bench.caches ≡ length capacities.now) }
+        ensures capacities { IfOk result (λ bench. map (λ c. c.row.capacity) bench.caches.items ≡ capacities.now) }
+        ensures begun { IfOk result (λ bench. (bench.warm ≡ warm) × (bench.reads ≡ 0)) }
     {
         let mut caches = Vec::new(alloc);
         for capacity in capacities {
@@ -140,7 +154,11 @@ impl Bench {
     /// # Errors
     /// What a cache refused.
     pub fn read(&mut self, key: u64) -> Result<()>
-        ensures { vec_len self.new.caches ≡ vec_len self.old.caches }
+        ensures caches { vec_len self.new.caches ≡ vec_len self.old.caches }
+        ensures capacities { IfOk result (λ _. map (λ c. c.row.capacity) self.new.caches.items
+            ≡ map (λ c. c.row.capacity) self.old.caches.items) }
+        ensures warm { self.new.warm ≡ self.old.warm }
+        ensures reads { IfOk result (λ _. self.new.reads ≡ min (self.old.reads + 1) (2 ^ 64 - 1)) }
     {
         if let Some(keys) = &mut self.keys {
             keys.push(key)?;
@@ -158,7 +176,9 @@ impl Bench {
     /// # Errors
     /// What memory was refused for.
     pub fn rows(&self) -> Result<Vec<Row>>
-        ensures { IfOk result (λ rows. vec_len rows ≡ vec_len self.now.caches) }
+        ensures rows { IfOk result (λ rows. vec_len rows ≡ vec_len self.now.caches) }
+        ensures capacities { IfOk result (λ rows. map (λ row. row.capacity) rows.items
+            ≡ map (λ c. c.row.capacity) self.now.caches.items) }
     {
         let nexts = match &self.keys {
             Some(keys) => Some(optimum::next_reads(self.alloc, keys)?),

@@ -1,5 +1,5 @@
 //! What the caches found, as a line chart in SVG, in light and in dark.
-ghost use Rattle.std.specs.Prelude.{◌+◌, ◌≤◌};
+ghost use Rattle.std.specs.Prelude.{◌≡◌, ◌≤◌, ◌+◌, ◌-◌, ◌*◌, ◌/◌, max, min};
 
 use crate::escape::Escaped;
 use crate::row::{POLICIES, Policy, Row};
@@ -78,14 +78,16 @@ impl Scales {
 
     /// How far from the left a capacity lies.
     fn across(self, capacity: u64) -> u64
-        ensures { result ≤ LEFT + WIDTH }
+        ensures share { result ≡ LEFT + min (capacity * WIDTH / max self.capacity 1) WIDTH }
+        ensures within { result ≤ LEFT + WIDTH }
     {
         LEFT + place(capacity, self.capacity, WIDTH)
     }
 
     /// How far from above a ratio lies.
     fn down(self, ratio: u64) -> u64
-        ensures { result ≤ TOP + HEIGHT }
+        ensures share { result ≡ TOP + HEIGHT - min (ratio * HEIGHT / max self.ratio 1) HEIGHT }
+        ensures within { result ≤ TOP + HEIGHT }
     {
         TOP + HEIGHT - place(ratio, self.ratio, HEIGHT)
     }

@@ -1,5 +1,8 @@
 //! A cache that is read through.
-ghost use Rattle.std.specs.Prelude.{◌≡◌, Some, IfOk};
+ghost use Rattle.std.specs.Prelude.{◌≡◌, false, Some, IfOk};
+ghost use Rattle.moka_cache.specs.Limits.{HasSameLimits};
+ghost use Rattle.moka_engine.specs.Exact.{IsExact, IsWithin};
+ghost use Rattle.moka_engine.specs.Runs.{IsEmpty};
 ghost use Rattle.moka_hit_ratio.specs.Reads.{IsKept};
 
 use anyhow::Result;
@@ -26,6 +29,7 @@ impl ReadThrough {
         capacity: u64,
         policy: EvictionPolicy,
     ) -> Result<ReadThrough, OutOfMemory>
+        ensures empty { IfOk result (λ c. IsEmpty c.cache.engine.state) }
         ensures capacity { IfOk result (λ c. c.cache.engine.state.capacity ≡ Some capacity) }
         ensures policy { IfOk result (λ c. c.cache.engine.state.settings.policy ≡ policy) }
     {
@@ -42,7 +46,11 @@ impl ReadThrough {
     /// # Errors
     /// What a read or an insert was refused for.
     pub fn read(&mut self, key: u64) -> Result<bool>
-        ensures { IfOk result (IsKept self.old.cache.engine.state key) }
+        ensures found { IfOk result (IsKept self.old.cache.engine.state key) }
+        ensures within { IfOk result (λ found. found ≡ false
+            → IsWithin self.new.cache.engine.state.capacity self.new.cache.engine.state.access) }
+        ensures exact { IfOk result (λ found. found ≡ false → IsExact self.new.cache.engine.state) }
+        ensures limits { HasSameLimits self.old.cache.engine.state self.new.cache.engine.state }
     {
         let mut clock = FixedClock(NOW);
         let is_there = self.cache.get(&key, NOW, &mut clock)?.is_some();

@@ -1,5 +1,5 @@
 //! The axes of a chart: how far ticks are from one another, and where a value lies.
-ghost use Rattle.std.specs.Prelude.{◌≡◌, ◌<◌, ◌≤◌, ◌+◌, ◌*◌, ◌/◌, max, min};
+ghost use Rattle.std.specs.Prelude.{◌≡◌, ◌<◌, ◌≤◌, ◌+◌, ◌-◌, ◌*◌, ◌/◌, ◌%◌, ◌^◌, ℕ, max, min};
 
 use std::fmt;
 
@@ -42,12 +42,14 @@ pub fn tick_step(top: u64) -> u64
     }
 }
 
-/// The first tick at or above a value, which is where its axis ends.
+/// The first tick, beside that of 0, at or above a value, which is where its axis ends; 2^64 - 1 if that is less.
 pub fn axis_end(top: u64, step: u64) -> u64
     requires { 0 < step }
     ensures some { 0 < result }
     ensures above { top ≤ result }
     ensures near { result ≤ top + step }
+    ensures first { (ticks : ℕ) → 0 < ticks → top ≤ ticks * step → result ≤ ticks * step }
+    ensures tick { result < 2 ^ 64 - 1 → result % step ≡ 0 }
 {
     let ticks = (top / step).saturating_add(u64::from(top % step > 0));
     ticks.saturating_mul(step).max(step)

@@ -1,4 +1,4 @@
--- What a look-up finds, and what a hit makes of a record.
+-- What a look-up finds, when it may be refused memory, and what a hit makes of a record.
 use Rattle.std.specs.Prelude.{◌≡◌, ℕ, Bool, true, false, List, Option, Some, None, option_map, if◌then◌else◌, ◌⊎◌}
 use Rattle.std.specs.FinMap.{get}
 use Rattle.moka_types.specs.declared.calls.Entry.{Entry}
@@ -30,14 +30,14 @@ module _ {K V X P S : Type 0} (kept : Kept K V S) (expirations : Expirations X) 
     pub shown : has_lapsed (expiring_by expirations) bound r now ≡ false
     pub uncovered : NoneCovers says predicates r
 
-  -- where nothing is found, the record sought, if there is one, was ignored or is hidden
+  -- if nothing is found, the record sought, if there is one, was ignored or is hidden
   abbrev pub Finds : Bool → ℕ → Option (Handle × Record K V) → Type 0
   Finds ignored now None = (r : Record K V) → sought ≡ Some r → (ignored ≡ true)
       ⊎ ((has_lapsed (expiring_by expirations) bound r now ≡ true) ⊎ SomeCovers says predicates r)
   Finds ignored now (Some found) = IsFound ignored now found.0 found.1
 
-  -- this is handed out of the record that is found, at its handle, unless memory for it is refused, which it is of
-  -- none whose clones succeed
+  -- this is handed out of the record that is found, at its handle; memory for it is refused only if a clone of it may
+  -- fail
   abbrev pub HandsFound : {A : Type 0} → (Record K V → A → Type 0) → (Record K V → Type 0) → Bool → ℕ → Look A → Type 0
   HandsFound Of Succeeds ignored now Missed = Finds ignored now None
   HandsFound Of Succeeds ignored now Refused =
@@ -49,7 +49,7 @@ abbrev pub ClonesSucceed : {K V : Type 0} → (K → Type 0) → (V → Type 0) 
 ClonesSucceed is_key_infallible is_infallible need_key r =
     is_infallible r.value × (need_key ≡ true → is_key_infallible r.key)
 
--- the entry that a get answers: the record's value, and its key where that is asked for
+-- the entry that a get answers: the record's value, and its key if that is asked for
 abbrev pub entry_at : {K V : Type 0} → Bool → Record K V → Entry K V
 entry_at need_key r = record { key = if need_key then Some r.key else None; value = r.value }
 

@@ -20,6 +20,6 @@ module _ {K V : Type 0} where
     pub unsettled : are_unsettled c.records moved ≡ true
     pub order : access ≡ all_to_back moved c.access
     pub settled : AreSettled c (take victims access)
-    -- they are those of the definition where the candidate is preferred
+    -- they are those of the definition if the candidate is preferred
     pub fate : fate_by_frequency c hash (victims_for c weight)
         ≡ (if preferred then Preferred (take victims access) else Refused)

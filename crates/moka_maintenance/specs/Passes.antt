@@ -18,12 +18,12 @@ use Rattle.moka_maintenance.specs.Steps.{Stock, MayRun, AreAllMembers, HasNoSett
 use Rattle.moka_maintenance.specs.Sweeps.{tests_in, sweeps_writes, IsAtRest, IsDone}
 
 module _ {C : Type 0} (reads : C → Instant → C → Type 0) where
-  -- the clock is read once where a limit is given
+  -- the clock is read once if a limit is given
   abbrev pub Starts : Option ℕ → C → Option Instant → C → Type 0
   Starts None c started d = (started ≡ None) × (d ≡ c)
   Starts (Some limit) c started d = (r : Instant) × (started ≡ Some r) × reads c r d
 
-  -- where it was read before it is read again, and it is late where the limit has passed since then
+  -- if it was read before, it is read again, and is late if the limit has passed since then
   abbrev pub Checks : Option Instant → Option ℕ → C → Bool → C → Type 0
   Checks None limit c late d = (late ≡ false) × (d ≡ c)
   Checks (Some first) None c late d = (late ≡ false) × (d ≡ c)
@@ -55,7 +55,7 @@ module _ {K V L P : Type 0} (tells : L → K → V → RemovalCause → L → Ty
     -- beside timers and the scan, each of its steps takes at most a batch of turns
     pub many : length by.steps + length after.contents.access
         ≤ batch + batch + batch + length before.contents.access
-    -- where all its steps make room, it removed a batch if it left more, and else less than that
+    -- if all its steps make room, it removed a batch if it left more, and else less than that
     pub counted : list_all makes_room by.steps ≡ true → removed ≡ length (removed_by by.steps)
     pub fewer : left ≡ false → 1 ≤ batch → list_all makes_room by.steps ≡ true → removed < batch
     pub batch_used : left ≡ true → 1 ≤ removed → list_all makes_room by.steps ≡ true → removed ≡ batch
@@ -71,10 +71,10 @@ module _ {K V L P : Type 0} (tells : L → K → V → RemovalCause → L → Ty
     -- without predicates, or with a batch of 0, the scan leaves nothing
     pub unregistered : ps ≡ [] → scan ≡ false
     pub scan_idle : batch ≡ 0 → scan ≡ false
-    -- it leaves more only where a predicate is left, and wherever one is beside a settled member
+    -- it leaves more only if a predicate is left, and wherever one is beside a settled member
     pub scan_more : scan ≡ true → 0 < length qs
     pub unfinished : ordered ≡ true → 1 ≤ batch → 0 < length qs → (scan ≡ true) ⊎ HasNoSettled after
-    -- with a batch for all members, no predicate is left where each record is a settled one
+    -- with a batch for all members, no predicate is left if each record is a settled one
     pub predicates : ordered ≡ true → length before.contents.access ≤ batch → AreAllMembers before → qs ≡ []
 
   module _ {C : Type 0} (reads : C → Instant → C → Type 0) (limit : Option ℕ) where
@@ -98,7 +98,7 @@ module _ {K V L P : Type 0} (tells : L → K → V → RemovalCause → L → Ty
       pub untimed : is_some limit ≡ false → readings ≡ []
       -- no reading but the last is late
       pub ends : is_late limit (take (length readings - 1) readings) ≡ false
-      -- a whole run leaves more only where a predicate is left, and wherever one is beside a settled member
+      -- a whole run leaves more only if a predicate is left, and wherever one is beside a settled member
       pub whole : is_late limit readings ≡ false → 1 ≤ batch → left ≡ true → 0 < length qs
       pub unfinished : ordered ≡ true → is_late limit readings ≡ false → 1 ≤ batch → 0 < length qs → (left ≡ true)
           ⊎ HasNoSettled after
@@ -120,11 +120,11 @@ module _ {K V L P : Type 0} (tells : L → K → V → RemovalCause → L → Ty
           (after_steps before reads_swept.first)
       -- with a batch of 0 more is left wherever a sweep is made
       pub idle : batch ≡ 0 → left ≡ (sweeps_writes q || is_over q.capacity after.contents.access)
-      -- where all its steps make room, each pass but the last of a whole run removed a batch
+      -- if all its steps make room, each pass but the last of a whole run removed a batch
       pub exact : is_late limit readings ≡ false → 1 ≤ batch → ps ≡ [] → list_all makes_room by.steps ≡ true →
           passes ≡ length (removed_by by.steps) / batch + 1
       -- one that was cut after its first pass, all of whose steps make room, removed a batch
       pub batch_used : is_late limit readings ≡ true → passes ≡ 1 → ps ≡ [] → list_all makes_room by.steps ≡ true →
           length (removed_by by.steps) ≡ batch
-      -- with a batch for all members, no predicate is left where each record is a settled one
+      -- with a batch for all members, no predicate is left if each record is a settled one
       pub predicates : ordered ≡ true → length before.contents.access ≤ batch → AreAllMembers before → qs ≡ []

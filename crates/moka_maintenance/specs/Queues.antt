@@ -44,7 +44,7 @@ module _ {K V L : Type 0} (tells : L → K → V → RemovalCause → L → Type
 
 module _ {K V L : Type 0} (tells : L → K → V → RemovalCause → L → Type 0) (capacity : Option ℕ)
     (policy : EvictionPolicy) (ordered : Bool) where
-  -- one operation is applied; the order of writing goes from one list to the other, where it is kept
+  -- one operation is applied; the order of writing goes from one list to the other, if it is kept
   pub record IsApplied (before after : Contents K V) (ns ms : List ℕ) (o : Operation) (l m : Option L) : Type 0 where
     pub moved : List ℕ
     pub may : AreMoves capacity policy before o moved
@@ -63,7 +63,7 @@ module _ {K V L : Type 0} (tells : L → K → V → RemovalCause → L → Type
 
 module _ {K V L : Type 0} (tells : L → K → V → RemovalCause → L → Type 0) (capacity : Option ℕ)
     (policy : EvictionPolicy) (ordered has_weigher : Bool) where
-  -- the operations are applied in order, and then the sketch is enabled where it is due
+  -- the operations are applied in order, and then the sketch is enabled if it is due
   pub record ArePrepared (before after : Contents K V) (ns ms : List ℕ) (os : List Ticketed)
       (l m : Option L) : Type 0 where
     pub between : Contents K V
@@ -84,7 +84,7 @@ LeavesNoRowBy os old new = (n p : ℕ) → get new.places n ≡ Some p → get n
 
 module _ {K V S L : Type 0} (tells : L → K → V → RemovalCause → L → Type 0) (bounds : Bounds) (sketch : Option Table)
     (old new : Kept K V S) where
-  -- one operation is applied to a store, whose row is given back where it was a removal
+  -- one operation is applied to a store, whose row is given back if it was a removal
   pub record AppliesWrite (o : Operation) (l m : Option L) : Type 0 where
     pub applied : IsApplied tells bounds.capacity bounds.policy old.ordered (contents_with sketch old)
         (contents_with sketch new) old.written new.written o l m

@@ -19,7 +19,7 @@ use Rattle.moka_maintenance.specs.Expelled.{Expels}
 use Rattle.moka_maintenance.specs.Steps.{Stock, contents_in, stock_in, AreAllMembers, HasNoSettled, IsStepped}
 use Rattle.moka_maintenance.specs.Upkeep.{SetsNoTimer}
 
--- the numbers from the cursor on, which is at the front where it is at none
+-- the numbers from the cursor on, which is at the front if it is at none
 abbrev pub from_cursor : Option ℕ → List ℕ → List ℕ
 from_cursor None ns = ns
 from_cursor (Some n) [] = []
@@ -77,7 +77,7 @@ module _ {K V P : Type 0} (says : P → K → V → Bool → Type 0) where
     pub looks : looked ≡ length (settled_numbers old.records walked)
     pub uncovered : AreUncovered says ps new.records walked
     pub most : looked ≤ batch
-    -- where a predicate is, the batch is used up unless the round is through
+    -- if there is a predicate, the batch is used up unless the round is through
     pub used : 0 < length ps → (looked ≡ batch) ⊎ (ahead ≡ [])
     -- the next round begins behind those passed, and ends with those of them that stay
     pub kept : List ℕ
@@ -97,7 +97,7 @@ pub record IsStretch {K V S : Type 0} (most batch : ℕ) (old new : Kept K V S) 
 
 module _ {K V L P : Type 0} (tells : L → K → V → RemovalCause → L → Type 0) (says : P → K → V → Bool → Type 0)
     (ps : List (Registered P)) where
-  -- a member is looked at: one that is not settled stays; a settled one stays where no predicate covers it, and else
+  -- a member is looked at: one that is not settled stays; a settled one stays if no predicate covers it, and else
   -- leaves
   abbrev pub LooksAt : {S : Type 0} → Kept K V S → Kept K V S → Option L → Option L → ℕ → Bool → Type 0
   LooksAt old new l m n false = (is_settled old.records n ≡ false) × (new ≡ old) × (m ≡ l)
@@ -128,7 +128,7 @@ module _ {K V L P : Type 0} (tells : L → K → V → RemovalCause → L → Ty
       (end : Bool) : Type 0 where
     pub by : IsStepped tells (MayScan says ps) (stock_in old) (stock_in new) l m
     pub goes : GoesRound says ps batch old new looked
-    -- the end is reached where all from the cursor on are passed
+    -- the end is reached if all from the cursor on are passed
     pub ended : end ≡ nat_le (length (from_cursor old.cursor old.written)) (length goes.walked)
     pub few : length by.steps ≤ looked
     pub unlooked : old.ordered ≡ true → 1 ≤ batch → looked ≡ 0 → HasNoSettled (stock_in old)
@@ -153,7 +153,7 @@ module _ {K V L P : Type 0} (tells : L → K → V → RemovalCause → L → Ty
     pub unregistered : ps ≡ [] → (by.steps ≡ []) × (left ≡ false)
     -- it ends as a pass is to
     pub ends : old.ordered ≡ true → EndsScan (NoneCovers says ps) batch (length by.steps) (contents_in new)
-    -- more is left exactly where a member was looked at and a predicate is left
+    -- more is left exactly if a member was looked at and a predicate is left
     pub leaves : left ≡ (nat_lt 0 looked && nat_lt 0 (length qs))
     -- so wherever a predicate is left beside a settled member
     pub unfinished : old.ordered ≡ true → 1 ≤ batch → 0 < length qs → (left ≡ true) ⊎ HasNoSettled (stock_in new)

@@ -17,7 +17,7 @@ use Rattle.moka_store.specs.Store.{Kept}
 -- what steps work on: contents, whose sketch they do not see, and the write list
 pub record Stock (K V : Type 0) : Type 0 where
   pub contents : Contents K V
-  -- the members' numbers in the order of writing, where that is kept
+  -- the members' numbers in the order of writing, if that is kept
   pub written : List ℕ
 
 module _ {K V : Type 0} where
@@ -104,7 +104,7 @@ makes_room (MovesToBack n) = false
 makes_room (Drops i) = false
 
 module _ {K V L : Type 0} (tells : L → K → V → RemovalCause → L → Type 0) where
-  -- the listener, where one is set, is told what left
+  -- the listener, if one is set, is told what left
   abbrev pub Told : Option L → List (Notice K V) → Option L → Type 0
   Told before left after = Heard tells before (when_listening (is_some before) left) after
 

@@ -12,13 +12,13 @@ module _ {K V : Type 0} where
   AreTimed k = (n : ℕ) (r : Record K V) → get k.records n ≡ Some r → is_member n k.access ≡ true → is_applied r ≡ true
       → get k.timers n ≡ moment_of r.expires
 
-  -- no settled member expires without a timer: where timers are kept they stand at the records' expiries, and where they
+  -- no settled member expires without a timer: if timers are kept they stand at the records' expiries, and if they
   -- are not, no record has an expiry
   abbrev pub AreOnTime : {S : Type 0} → Kept K V S → Type 0
   AreOnTime k = ((k.timed ≡ true) × AreTimed k) ⊎ ((n : ℕ) (r : Record K V) → get k.records n ≡ Some r
       → r.expires ≡ None)
 
-  -- where timers are kept, the timer of the number, if it is a member with a record, stands at the record's expiry
+  -- if timers are kept, the timer of the number, if it is a member with a record, stands at the record's expiry
   abbrev pub StandsAtExpiry : {S : Type 0} → ℕ → Kept K V S → Type 0
   StandsAtExpiry n k = k.timed ≡ true → (r : Record K V) → get k.records n ≡ Some r → is_member n k.access ≡ true
       → get k.timers n ≡ moment_of r.expires
@@ -34,7 +34,7 @@ module _ {K V : Type 0} where
       → ((get old.records n ≡ Some r) × (is_member n old.access ≡ true) × (get new.timers n ≡ get old.timers n))
       ⊎ (get new.timers n ≡ moment_of r.expires)
 
-  -- what orders and timers a store keeps never changes, nor does its hasher; where timers are kept they stand as
+  -- what orders and timers a store keeps never changes, nor does its hasher; if timers are kept they stand as
   -- before, or anew at their records' expiries
   pub record KeepsTimers {S : Type 0} (old new : Kept K V S) : Type 0 where
     pub ordered : new.ordered ≡ old.ordered

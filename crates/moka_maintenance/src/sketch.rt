@@ -13,8 +13,8 @@ use moka_store::Store;
 use std::hash::{BuildHasher, Hash};
 
 /// Makes the sketch's table under TinyLFU, once half of a capacity other than 0 is taken. It has about a word for each
-/// entry that finds room: with a weigher, as many as find room at the mean weight of today's. If memory for so long
-/// a table is refused, it has 128 words.
+/// unit of the capacity; with a weigher, for each present entry times the part of the capacity that all of them take.
+/// If memory for so long a table is refused, it has 128 words.
 pub fn enable_frequency_sketch<K: Eq + Hash, V, S: BuildHasher>(
     store: &Store<K, V, S>,
     sketch: &mut FrequencySketch,
@@ -45,7 +45,7 @@ fn is_due(sketch: &FrequencySketch, capacity: u64, policy: EvictionPolicy, weigh
         && u128::from(capacity / 2) <= weight
 }
 
-// The size that is asked for: as many entries as find room at their mean weight, which is 1 without a weigher.
+// The size that is asked for: the capacity; with a weigher the members times the part of the capacity that they take.
 fn size_asked(has_weigher: bool, capacity: u64, members: usize, weight: u128) -> u64
     requires { 0 < capacity }
     ensures { result ≡ size_asked has_weigher capacity members weight }

@@ -51,7 +51,7 @@ pub record IsBounded {K V X P W : Type 0} (says : P → K → V → Bool → Typ
   pub passes : course.passes ≤ length (removed_by ch.steps) + 1
   -- each pass of a cut run removed a record
   pub removing : is_cut s.settings terms course ≡ true → course.passes ≤ length (removed_by ch.steps)
-  -- one reading per pass, and one more where the run is cut
+  -- one reading per pass, and one more if the run is cut
   pub timed : is_timed s.settings terms ≡ true →
       length course.readings ≡ course.passes + (if is_cut s.settings terms course then 1 else 0)
   pub untimed : is_timed s.settings terms ≡ false → course.readings ≡ []
@@ -71,7 +71,7 @@ pub record IsBounded {K V X P W : Type 0} (says : P → K → V → Bool → Typ
       × EndsSweep s terms course (IsAtRestByRead (tests_of s terms.now)) (after_choices (before_steps s ch) first)
       (length first)
   pub surplus_swept : EndsSweep s terms course (λ c. IsWithin s.capacity c.access) (at_end s ch) (length ch.steps)
-  -- where weight is the only ground, a whole run makes no more passes than it needs
+  -- if weight is the only ground, a whole run makes no more passes than it needs
   pub needed : (capacity : ℕ) → IsPlainSurplus s terms.now capacity (before_steps s ch) → IsWhole s terms course →
       course.passes ≡ length (removed_by ch.steps) / terms.batch + 1
   -- a whole run removes just enough from the front

@@ -63,7 +63,7 @@ Weighs weighs (Some weigher) key value w = weighs weigher key value w
 abbrev pub are_numbers_used_up : {K V X P W : Type 0} → State K V X P W → ℕ → Bool
 are_numbers_used_up s more = nat_le (2 ^ 64) (s.next_ticket + finite.len s.records + more)
 
--- why an insert is refused; where the numbers are used up, that comes first
+-- why an insert is refused; if the numbers are used up, that comes first
 abbrev pub HasInsertError : {K V X P W : Type 0} → State K V X P W → ℕ → InsertError → Type 0
 HasInsertError s more insert_error.NumbersUsedUp = are_numbers_used_up s more ≡ true
 HasInsertError s more insert_error.OutOfMemory = are_numbers_used_up s more ≡ false
@@ -121,7 +121,7 @@ module _ {K V X P W : Type 0} (created : X → K → V → ℕ → Option ℕ) (
       (Upsert r.number (r.generation + 1) w hash)
 
   module _ (weighs : W → K → V → ℕ → Type 0) where
-    -- an insert, where the key has that record or none
+    -- an insert, if the key has that record or none
     abbrev pub InsertsAt : State K V X P W → Option (Record K V) → K → ℕ → V → Instant →
         Result (Ticket × Instant) (InsertRefused K V) → Events K V → State K V X P W → Type 0
     InsertsAt s None key hash value now (Ok a) e t = (w : ℕ) × Weighs weighs s.settings.weigher key value w
@@ -147,7 +147,7 @@ abbrev pub entry_of : {K V : Type 0} → Record K V → KvEntry K V
 entry_of r = record { key = r.key; value = r.value; last_modified = r.written; last_accessed = r.read }
 
 module _ {K V X W : Type 0} where
-  -- the listener, where one is set, is notified of a clone of the entry; only then can memory be refused
+  -- the listener, if one is set, is notified of a clone of the entry; only then can memory be refused
   abbrev pub NotifyStep : Settings X W → KvEntry K V → Instant → Result (Unit {0}) OutOfMemory → List (Notice K V) →
       Type 0
   NotifyStep settings entry now (Ok _) notices = notices
@@ -221,7 +221,7 @@ module _ {K V X P W : Type 0} where
 
 -- ---- runs
 
--- the read is queued, or discarded where the queue is full
+-- the read is queued, or discarded if the queue is full
 abbrev pub queueing : {K V X P W : Type 0} → State K V X P W → ReadOperation → State K V X P W
 queueing s r = record s { reads = if nat_lt (length s.reads) queue_length then s.reads ++ r ∷ [] else s.reads }
 
@@ -242,7 +242,7 @@ module _ {K V X P W : Type 0}
   KeeperRun s now e t = (answer : Bool) × (mid : State K V X P W) × RunStep s (keeper_terms s.settings now) answer e mid
       × (t ≡ record mid { housekeeping = after_run_due s.housekeeping s.settings.listening now answer })
 
-  -- the housekeeper's run, where so many queued operations make one due
+  -- the housekeeper's run, if so many queued operations make one due
   abbrev pub RunsIfDue : State K V X P W → ℕ → ℕ → Events K V → State K V X P W → Type 0
   RunsIfDue s queued now e t = MatchBool (is_due s.housekeeping queued now) (KeeperRun s now e t) (Unchanged s e t)
 
@@ -265,7 +265,7 @@ module _ {K V X P W : Type 0} (says : P → K → V → Bool → Type 0) where
   abbrev pub ContainsStep : (K → K → Bool) → State K V X P W → K → ℕ → Bool → Type 0
   ContainsStep eq s key now shown = IsShown says s (record_of_key eq s.records key) now shown
 
-  -- the value where it is visible; memory can be refused only where it would be cloned
+  -- the value if it is visible; memory can be refused only if it would be cloned
   abbrev pub ScansAt : State K V X P W → Option (Record K V) → ℕ → Result (Option V) OutOfMemory → Type 0
   ScansAt s None now a = a ≡ Ok None
   ScansAt s (Some r) now (Ok None) = IsHidden says s r now
@@ -315,7 +315,7 @@ module _ {K V X P W : Type 0} (says : P → K → V → Bool → Type 0) (read :
       (PeeksAt s (record_of_key eq s.records key) ignored now a t)
 
   module _ (Runs : State K V X P W → Terms → Course → List (Notice K V) → State K V X P W → Type 0) where
-    -- a get of a map that is not disabled, where the key has that record or none
+    -- a get of a map that is not disabled, if the key has that record or none
     abbrev pub GetsAt : State K V X P W → Option (Record K V) → ℕ → Bool → Bool → ℕ →
         Result (Option (Entry K V)) OutOfMemory → Events K V → State K V X P W → Type 0
     GetsAt s None hash need_key ignored now a e t = (a ≡ Ok None) × RecordsRead Runs s now (Miss hash) e t

@@ -20,7 +20,7 @@ before_last_of victims members =
     option_map_or (λ (last : Member). before_first (λ a. a.number == last.number) members) (last_or None victims) []
 
 module _ {K V : Type 0} (records : Records K V) where
-  -- six members side by side are unsettled, where so many unsettled ones stand right before the list
+  -- six members side by side are unsettled, if so many unsettled ones stand right before the list
   abbrev pub has_six_unsettled : ℕ → List Member → Bool
   has_six_unsettled before [] = false
   has_six_unsettled before (a ∷ members) = if is_settled records a.number then has_six_unsettled 0 members

@@ -31,7 +31,7 @@ module _ {A : Type 0} (is_clone : A → A → Type 0) where
   HandsOut Step b = (a : Result (Option A) OutOfMemory) × Step a × IsCopiedAnswer a b
 
 module _ {K V : Type 0} (is_key_clone : K → K → Type 0) (is_value_clone : V → V → Type 0) where
-  -- clones of an entry's key, where it has one, and of its value
+  -- clones of an entry's key, if it has one, and of its value
   pub record IsEntryCopy (e f : Entry K V) : Type 0 where
     pub key : IsCopy is_key_clone e.key f.key
     pub value : is_value_clone e.value f.value
@@ -43,7 +43,7 @@ module _ {K V : Type 0} (is_key_clone : K → K → Type 0) (is_value_clone : V 
     pub last_modified : f.last_modified ≡ e.last_modified
     pub last_accessed : f.last_accessed ≡ e.last_accessed
 
-  -- the listener, where one is set, is notified of such clones
+  -- the listener, if one is set, is notified of such clones
   abbrev pub NotifiesOfCopy : {X W : Type 0} → Settings X W → KvEntry K V → Instant → Result (Unit {0}) OutOfMemory →
       List (Notice K V) → Type 0
   NotifiesOfCopy settings entry now a notices = (copy : KvEntry K V) × NotifyStep settings copy now a notices

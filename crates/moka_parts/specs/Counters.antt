@@ -27,7 +27,7 @@ after_look_ups {V} (found ∷ rest) s = after_look_ups rest (after_look_up {V = 
 abbrev pub after_load : Stats → Stats
 after_load s = record s { loads = one_more s.loads }
 
--- a look-up, after which a maker was called where there is something made
+-- a look-up, after which a maker was called if there is something made
 abbrev pub after_get_with : {A B E : Type 0} → Option A → Result B E → Stats → Stats
 after_get_with None (Ok value) s = record s { hits = one_more s.hits }
 after_get_with None (Err refused) s = s

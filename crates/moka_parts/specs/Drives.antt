@@ -21,5 +21,5 @@ pub record Drives {K V S X L P W C I : Type 0} (m : Meaning K V X L P W C I) (ca
   pub orderly : IsEmpty old.state ⊎ (keeps_write_list old.state.settings ≡ true →
       IsInOrder old.state old.write_list) → AreOrderly old.state steps →
       AreSteps m (OrderlyRun m.says m.read) old.state steps
-  -- where a listener is set, it is notified of each value that leaves the map once
+  -- if a listener is set, it is notified of each value that leaves the map once
   pub told_once : old.state.settings.listening ≡ true → AllConserveValues old.state steps

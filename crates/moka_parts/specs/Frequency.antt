@@ -68,7 +68,7 @@ abbrev pub halved_if : Bool → Table → Table
 halved_if false t = t
 halved_if true t = halved t
 
--- the table, halved where its size has reached ten times its length
+-- the table, halved if its size has reached ten times its length
 abbrev pub aged : Table → Table
 aged t = halved_if (t.size == 10 * t.table_length) t
 
@@ -112,7 +112,7 @@ table_length_for size = doubled_to 30 1 (min (max size 128) (2 ^ 30))
 abbrev pub sketch_capacity_for : ℕ → ℕ
 sketch_capacity_for capacity = min (max capacity 128) (2 ^ 32 - 1)
 
--- the size asked for: the capacity, or with a weigher as many members as the capacity holds at their mean weight
+-- the size asked for: the capacity, or with a weigher the members times the part of the capacity that they take
 abbrev pub size_asked : Bool → ℕ → ℕ → ℕ → ℕ
 size_asked false capacity members total = capacity
 size_asked true capacity members total = min (min (members * total) (2 ^ 128 - 1) / capacity) (2 ^ 64 - 1)

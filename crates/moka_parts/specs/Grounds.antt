@@ -69,7 +69,7 @@ module _ {K V : Type 0} (q : Tests) where
       → (is_past_read q r ≡ false) × (is_read_before q.invalid_before r ≡ false)
 
   -- the number is the one to which the step has come: a sweep takes the front of its order, one by the last write only
-  -- where that order is kept, and one of the surplus only while the capacity is exceeded
+  -- if that order is kept, and one of the surplus only while the capacity is exceeded
   abbrev pub IsTurnOf : Bool → Ground → Contents K V → List ℕ → ℕ → Type 0
   IsTurnOf ordered ByTimer c write_list n = ⊤
   IsTurnOf ordered ByWrite c write_list n = (ordered ≡ true) × (slice_get write_list 0 ≡ Some n)
@@ -97,7 +97,7 @@ module _ {K V : Type 0} (Spared : Record K V → Type 0) where
         ⊎ ((n : ℕ) → is_member n c.access ≡ true → is_listed n passed ≡ true)
 
   -- where the step ended: a sweep came to rest, or no member is settled, or it made all its choices; by timers no settled
-  -- member is left whose own expiry has come, where those are on time; a scan goes along the order of writing, if that is
+  -- member is left whose own expiry has come, if those are on time; a scan goes along the order of writing, if that is
   -- kept, and the sweep by the last write goes by this list
   module _ (OnTime : Type 0) (ordered : Bool) (q : Tests) where
     abbrev pub EndsStep : Ground → ℕ → ℕ → Contents K V → List ℕ → Type 0

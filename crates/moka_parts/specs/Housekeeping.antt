@@ -36,12 +36,12 @@ is_due h queued now = h.more || (h.automatic && (nat_le flush_point queued || na
 abbrev pub shortest_due : Bool → ℕ
 shortest_due more = if more then 0 else flush_point
 
--- after a run of the housekeeper: its answer is kept only where a listener is set
+-- after a run of the housekeeper: its answer is kept only if a listener is set
 abbrev pub after_run_due : Housekeeping → Bool → ℕ → Bool → Housekeeping
 after_run_due h listening now answer =
     record h { run_after = next_run now; more = if listening then answer else h.more }
 
--- the time limit that the housekeeper gives to a run: only where a listener is set
+-- the time limit that the housekeeper gives to a run: only if a listener is set
 abbrev pub limit_of_run : Bool → ℕ → Option ℕ
 limit_of_run listening limit = if listening then Some limit else None
 

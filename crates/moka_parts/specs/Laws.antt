@@ -47,7 +47,7 @@ is_answered (Err _) = false
 module _ {K V X P W : Type 0} (eq : K → K → Bool) (says : P → K → V → Bool → Type 0)
     (read : X → K → V → ℕ → Option ℕ → ℕ → Option ℕ)
     (Runs : State K V X P W → Terms → Course → List (Notice K V) → State K V X P W → Type 0) where
-  -- a get answers a value exactly where the key is contained, unless memory is refused
+  -- a get answers a value exactly if the key is contained, unless memory is refused
   abbrev pub GetsWhatIsContained : Type 0
   GetsWhatIsContained = (s : State K V X P W) (key : K) (hash : ℕ) (need_key : Bool) (now : ℕ)
       (a : Result (Option (Entry K V)) OutOfMemory) (e : Events K V) (t : State K V X P W) (shown : Bool) →
@@ -80,7 +80,7 @@ abbrev pub IsNoEarlier : ℕ → Option ℕ → Type 0
 IsNoEarlier t None = ⊤
 IsNoEarlier t (Some u) = t ≤ u
 
--- the later moment, where the call carries one
+-- the later moment, if the call carries one
 abbrev pub later_of : ℕ → Option ℕ → ℕ
 later_of t None = t
 later_of t (Some u) = u
@@ -199,7 +199,7 @@ abbrev pub TellsWhatLeaves : {K V X P W : Type 0} → State K V X P W → Freedo
 TellsWhatLeaves s ch =
     IsPermutation (values_of s.records) (map (λ n. n.1) (left_in_run s ch) ++ values_of (at_end s ch).records)
 
--- where a listener is set, every call tells exactly what leaves the map in it, each once
+-- if a listener is set, every call tells exactly what leaves the map in it, each once
 abbrev pub TellsEachOnce : {K V X L P W C I : Type 0} → Meaning K V X L P W C I → Type 0
 TellsEachOnce {K} {V} {X} {L} {P} {W} m = (s : State K V X P W) (steps : List (Step K V X P W)) → IsValid m.eq s
     → s.settings.listening ≡ true → AreSteps m (MaintenanceRun m.says) s steps → AllConserveValues s steps
@@ -243,7 +243,7 @@ CountsNearly {K} {V} {P} X W eq says = (s : State K V X P W) (terms : Terms) (co
     → IsNear t
 
 module _ {K V X P W : Type 0} (says : P → K → V → Bool → Type 0) (s : State K V X P W) (now : ℕ) (ch : Freedom) where
-  -- where weight is the only ground for a removal, steps that end within the capacity remove just enough from the front
+  -- if weight is the only ground for a removal, steps that end within the capacity remove just enough from the front
   abbrev pub RemovesEnough : Type 0
   RemovesEnough = (capacity : ℕ) → IsConsistentState s → AreFree says s now ch →
       IsPlainSurplus s now capacity (before_steps s ch) → IsWithin s.capacity (at_end s ch).access →
@@ -261,7 +261,7 @@ abbrev pub StaysValid : {K V X L P W C I : Type 0} → Meaning K V X L P W C I �
 StaysValid {K} {V} {X} {L} {P} {W} m = (s : State K V X P W) (steps : List (Step K V X P W)) → IsValid m.eq s
     → AreSteps m (MaintenanceRun m.says) s steps → IsValid m.eq (last_state s steps)
 
--- where the write list is kept, a list of calls in the order of time keeps a state in order
+-- if the write list is kept, a list of calls in the order of time keeps a state in order
 abbrev pub StaysInOrder : {K V X L P W C I : Type 0} → Meaning K V X L P W C I → Type 0
 StaysInOrder {K} {V} {X} {L} {P} {W} m = (s : State K V X P W) (steps : List (Step K V X P W)) (before : List ℕ) →
     IsValid m.eq s → keeps_write_list s.settings ≡ true → AreOrderly s steps → IsInOrder s before →
@@ -309,7 +309,7 @@ module _ {K V X L P W C I : Type 0} (m : Meaning K V X L P W C I) where
   ListsAreOfReference = (s : State K V X P W) (before : List ℕ) (steps : List (Step K V X P W)) (last : List ℕ)
       → AreListedSteps m s before steps last → AreSteps m (MaintenanceRun m.says) s steps
 
-  -- where the write list is kept, such a call in the order of time keeps a state in order with the list that it leaves
+  -- if the write list is kept, such a call in the order of time keeps a state in order with the list that it leaves
   abbrev pub CallsKeepOrder : Type 0
   CallsKeepOrder = (s : State K V X P W) (before : List ℕ) (x : Step K V X P W) (after : List ℕ) → IsValid m.eq s
       → ListedStep m s before x after → KeepsOrder s before x.call x.after after

@@ -7,7 +7,7 @@ use Rattle.moka_parts.specs.Bounds.{IsBounded, EndsSweep}
 use Rattle.moka_parts.specs.Order.{IsAtRestByWrite, write_list_at_end, write_list_before_steps, written_after_choices}
 use Rattle.moka_parts.specs.Runs.{EndsWell, CallStep, Step}
 
--- what a run by these choices makes of the write list, where it is kept
+-- what a run by these choices makes of the write list, if it is kept
 pub record LeavesList {K V X P W : Type 0} (before after : List ℕ) (s : State K V X P W) (terms : Terms) (ch : Freedom)
     (course : Course) : Type 0 where
   pub list : keeps_write_list s.settings ≡ true → after ≡ write_list_at_end s before ch

@@ -88,7 +88,7 @@ is_sketch_due None policy sketch total = false
 is_sketch_due (Some capacity) policy sketch total =
     is_tiny_lfu policy && is_none sketch && not (capacity == 0) && nat_le (capacity / 2) total
 
--- the length of its table: 128 where a longer one was refused
+-- the length of its table: 128 if a longer one was refused
 abbrev pub length_of_new_table : Bool → Option ℕ → Bool → List Member → ℕ
 length_of_new_table true capacity has_weigher members = 128
 length_of_new_table false None has_weigher members = 128
@@ -96,7 +96,7 @@ length_of_new_table false (Some capacity) has_weigher members =
     table_length_for (size_asked has_weigher capacity (length members) (total_weight members))
 
 module _ {K V : Type 0} where
-  -- the sketch is enabled where it is due
+  -- the sketch is enabled if it is due
   abbrev pub with_sketch : Option ℕ → EvictionPolicy → Bool → Bool → Contents K V → Contents K V
   with_sketch capacity policy has_weigher is_short c = record c {
     sketch = if is_sketch_due capacity policy c.sketch (total_weight c.access)

@@ -12,7 +12,7 @@ was_evicted Explicit = false
 was_evicted Replaced = false
 was_evicted Size = true
 
--- one notice is one step of the listener, and nothing where none is set
+-- one notice is one step of the listener, and nothing if none is set
 abbrev pub HearsOnce : {K V L : Type 0} → (L → K → V → RemovalCause → L → Type 0) → Option L → K → V → RemovalCause →
     Option L → Type 0
 HearsOnce tells before key value cause after =

@@ -62,7 +62,7 @@ pub record IsInOrder {K V X P W : Type 0} (s : State K V X P W) (write_list : Li
       (filter (is_settled s.records) write_list) ++ filter_map (λ h. written_by s.records h.operation)
       (waiting_by_ticket s))
 
--- a call in the order of time: an insert no earlier than any write, or, where a send moves an operation, the oldest one
+-- a call in the order of time: an insert no earlier than any write, or, if a send moves an operation, the oldest one
 -- sent
 abbrev pub IsOrderly : {K V X P W : Type 0} → State K V X P W → Call K V P → Type 0
 IsOrderly s (call.Insert key hash value now) = (n : ℕ) (r : Record _ _) → get s.records n ≡ Some r → r.written.0 ≤ now.0
@@ -81,7 +81,7 @@ pub record AgesOut {K V X P W : Type 0} (s : State K V X P W) (terms : Terms) (c
       get t.records n ≡ Some r → is_written_before t.invalid_before r ≡ false
 
 module _ {K V X P W : Type 0} where
-  -- where the write list is kept, a call in the order of time keeps a state in order
+  -- if the write list is kept, a call in the order of time keeps a state in order
   abbrev pub KeepsOrder : State K V X P W → List ℕ → Call K V P → State K V X P W → List ℕ → Type 0
   KeepsOrder s before c t after = keeps_write_list s.settings ≡ true → IsOrderly s c → IsInOrder s before
       → IsInOrder t after

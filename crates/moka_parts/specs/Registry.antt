@@ -24,7 +24,7 @@ module _ {P : Type 0} where
   FirstFree ps (asked ∷ []) id = (asked ≡ id) × (IsTaken ps id → ⊥)
   FirstFree ps (asked ∷ next ∷ ids) id = IsTaken ps asked × FirstFree ps (next ∷ ids) id
 
-  -- the first free identifier, or none where as many as may be asked for were all taken
+  -- the first free identifier, or none if as many as may be asked for were all taken
   abbrev pub FindsFree : List (Registered P) → List Uuid → Option Uuid → Type 0
   FindsFree ps ids (Some id) = (length ids ≤ most_ids) × FirstFree ps ids id
   FindsFree ps ids None = (length ids ≡ most_ids) × AllByRecursion (IsTaken ps) ids

@@ -28,13 +28,13 @@ pub record Engine (K V S X L P W : Type 0) : Type 0 where
   pub hasher : S
   pub state : State K V X P W
   pub listener : Option L
-  -- the members' numbers in the order of writing, where that is kept
+  -- the members' numbers in the order of writing, if that is kept
   pub write_list : List ℕ
   pub passes : ℕ
   -- in its tables
   pub room : ℕ
 
--- the passes of the last run, where this many were made before
+-- the passes of the last run, if this many were made before
 abbrev pub passes_after : ℕ → Option ℕ → ℕ
 passes_after before None = before
 passes_after before (Some passes) = passes
@@ -135,7 +135,7 @@ module _ {K V X P W : Type 0} where
   last_state s [] = s
   last_state s (x ∷ xs) = last_state x.after xs
 
-  -- the passes of the last run of the steps, where this many were made before
+  -- the passes of the last run of the steps, if this many were made before
   abbrev pub last_passes : ℕ → List (Step K V X P W) → ℕ
   last_passes before [] = before
   last_passes before (x ∷ xs) = last_passes (passes_after before x.events.passes) xs
@@ -187,7 +187,7 @@ module _ {K V X P W : Type 0} (says : P → K → V → Bool → Type 0) (read :
   abbrev pub PromisedRun : State K V X P W → Terms → Course → List (Notice K V) → State K V X P W → Type 0
   PromisedRun s terms course notices t = RunsWith says EndsWell (HasBounds says read) s terms course notices t
 
-  -- the same, where a whole run also removes what is past its time
+  -- the same, if a whole run also removes what is past its time
   abbrev pub OrderlyRun : State K V X P W → Terms → Course → List (Notice K V) → State K V X P W → Type 0
   OrderlyRun s terms course notices t = RunsWith says (λ s terms course t. EndsWell s terms course t
       × AgesOut s terms course t) (HasBounds says read) s terms course notices t

@@ -38,9 +38,9 @@ pub record IsTracked {K V : Type 0} (Waits : Operation → Type 0) (n : ℕ) (r 
   pub applied : r.applied ≤ r.generation
   -- and outside the access list the present one was not
   pub outside : counted ≡ None → r.applied < r.generation
-  -- where the present one was applied, its weight is counted
+  -- if the present one was applied, its weight is counted
   pub weighed : (w : ℕ) → counted ≡ Some w → r.applied ≡ r.generation → w ≡ r.weight
-  -- where it was not, it waits
+  -- if it was not, it waits
   pub pending : r.applied < r.generation → (hash : ℕ) × Waits (Upsert n r.generation r.weight hash)
   -- no upsert that waits is newer than the record, and the present one carries its weight
   pub carried : (generation weight hash : ℕ) → Waits (Upsert n generation weight hash) → (generation ≤ r.generation)
@@ -48,7 +48,7 @@ pub record IsTracked {K V : Type 0} (Waits : Operation → Type 0) (n : ℕ) (r 
   -- no removal of it waits
   pub stays : (generation : ℕ) → Waits (Removal n generation) → ⊥
 
--- what holds of a number: its record is tracked, or, where the record left the map, its member waits for its removal
+-- what holds of a number: its record is tracked, or, if the record left the map, its member waits for its removal
 abbrev pub IsSound : {K V : Type 0} → (Operation → Type 0) → ℕ → Option (Record K V) → Option ℕ → Type 0
 IsSound Waits n (Some r) counted = IsTracked Waits n r counted
 IsSound Waits n None (Some w) = (generation : ℕ) × Waits (Removal n generation)
@@ -110,7 +110,7 @@ pub record IsValid {K V X P W : Type 0} (eq : K → K → Bool) (s : State K V X
 
 -- ---- what a run leaves
 
--- a hit never changes an expiry, also where none is set
+-- a hit never changes an expiry, also if none is set
 abbrev pub NeverRenews : {K V X : Type 0} → (X → K → V → ℕ → Option ℕ → ℕ → Option ℕ) → Option X → Type 0
 NeverRenews {K} {V} {X} read expiry = (x : X) (k : K) (v : V) (now : ℕ) (told : Option ℕ) (written : ℕ)
     → expiry ≡ Some x → read x k v now told written ≡ told
@@ -148,11 +148,11 @@ pub record LeavesBehind {K V X P W : Type 0} (s : State K V X P W) (terms : Term
   pub within : IsWhole s terms course → IsWithin t.capacity t.access ⊎ (has_unsettled_member t ≡ true)
   -- a cut run leaves more
   pub cut : is_cut s.settings terms course ≡ true → course.answer ≡ true
-  -- a whole run leaves more only where a predicate is left
+  -- a whole run leaves more only if a predicate is left
   pub more : IsWhole s terms course → course.answer ≡ true → 0 < length t.predicates
-  -- and does so where one is left beside a settled member
+  -- and does so if one is left beside a settled member
   pub unfinished : IsWhole s terms course → 0 < length t.predicates → has_settled_member t ≡ true → course.answer ≡ true
-  -- with a batch of 0 it leaves more where there is anything to test records by
+  -- with a batch of 0 it leaves more if there is anything to test records by
   pub idle : is_disabled s.capacity ≡ false → terms.batch ≡ 0 → course.answer ≡ leaves_more_idle t
   -- the reported count is off by no more than the operations not sent
   pub count_high : t.count ≤ len t.records + len t.outstanding

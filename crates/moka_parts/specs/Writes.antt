@@ -78,18 +78,18 @@ module _ {K V : Type 0} where
   fate_by_frequency c hash None = Refused
   fate_by_frequency c hash (Some victims) = if is_preferred c hash victims then Preferred victims else Refused
 
-  -- where there is no room, but the candidate alone would fit
+  -- if there is no room, but the candidate alone would fit
   abbrev pub fate_by_policy : EvictionPolicy → Contents K V → ℕ → ℕ → Fate
   fate_by_policy Lru c weight hash = Admitted
   fate_by_policy TinyLfu c weight hash = fate_by_frequency c hash (victims_for c weight)
 
-  -- where the record is outside the access list
+  -- if the record is outside the access list
   abbrev pub fate_of_newcomer : Option ℕ → EvictionPolicy → Contents K V → ℕ → ℕ → Fate
   fate_of_newcomer capacity policy c weight hash =
       if has_room capacity (total_weight c.access) weight then Admitted
       else (if has_room capacity 0 weight then fate_by_policy policy c weight hash else TooHeavy)
 
-  -- where the record is in the map
+  -- if the record is in the map
   abbrev pub fate_of_record : Option ℕ → EvictionPolicy → Contents K V → ℕ → ℕ → ℕ → ℕ → Record K V → Fate
   fate_of_record capacity policy c number generation weight hash r =
       if nat_lt r.applied generation
@@ -128,7 +128,7 @@ module _ {K V : Type 0} where
         else with_applied c.records number r generation;
   }
 
-  -- the contents after an upsert of the record r with that fate, where those members were moved to the back
+  -- the contents after an upsert of the record r with that fate, if those members were moved to the back
   abbrev pub after_fate : Contents K V → ℕ → ℕ → ℕ → List ℕ → Record K V → Fate → Contents K V
   after_fate c number generation weight moved r Ignored = c
   after_fate c number generation weight moved r Overtaken = record c { access = to_back number c.access }
@@ -153,7 +153,7 @@ module _ {K V : Type 0} where
 -- ---- one write, and all
 
 module _ {K V : Type 0} (capacity : Option ℕ) (policy : EvictionPolicy) where
-  -- the contents after a write, where those members were moved to the back: a removal takes its number out of the
+  -- the contents after a write, if those members were moved to the back: a removal takes its number out of the
   -- access list
   abbrev pub after_write : Contents K V → Operation → List ℕ → Contents K V
   after_write c (Removal number generation) moved = record c { access = without_member number c.access }

@@ -63,7 +63,7 @@ start_of settings = unwrap_or settings.start 0
 abbrev pub chosen_terms : Option KeeperTerms → KeeperTerms
 chosen_terms keeper = unwrap_or keeper (record { limit = 100000000; repeats = 4; batch = 384 })
 
--- the cache that a script begins with; runs start by themselves where the script asks for it
+-- the cache that a script begins with; runs start by themselves if the script asks for it
 abbrev pub first_state : Chosen → ScriptState
 first_state chosen = record (new_state (record {
   policy = chosen_policy chosen.settings;

@@ -59,7 +59,7 @@ abbrev pub IsPlayed : Reading → Result Played Failure → Type 0
 IsPlayed read (Ok played) = (script : ScriptText) × Says read script × IsPlayedScript script played
 IsPlayed read (Err failure) = Stops read failure
 
--- 3 where a reply was refused for memory
+-- 3 if a reply was refused for memory
 abbrev pub status_of_replies : List (Reply ℕ (List ℕ) KeyRange) → ℕ
 status_of_replies replies = if list_any is_refused_memory replies then 3 else 0
 

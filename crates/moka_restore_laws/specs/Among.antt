@@ -34,7 +34,7 @@ module _ {K V S X L P W C : Type 0} (m : Meaning K V X L P W C (Unit {0})) (hash
       × PutsBack m hash_of now item answer old clock mid between × PartsMade parts mid between new clock_after
 
   -- and each list of calls is a run of the reference cache whose runs of maintenance keep their promises, and which
-  -- tells a listener, where one is set, of each value that leaves the map once; what always holds of a cache does after
+  -- tells a listener, if one is set, of each value that leaves the map once; what always holds of a cache does after
   -- each part
   abbrev pub PartsKeep : List (Part K V P) → Engine K V S X L P W → C → Engine K V S X L P W → C → Type 0
   PartsKeep [] old clock new clock_after = (new ≡ old) × (clock_after ≡ clock)

@@ -2,7 +2,7 @@
 use Rattle.std.specs.Prelude.{ℕ, ◌+◌, min, Option, Some, None}
 use Rattle.moka_records.specs.Time.{greatest}
 
--- the sum of two capacities, where both are set
+-- the sum of two capacities, if both are set
 abbrev pub both : Option ℕ → Option ℕ → Option ℕ
 both (Some one) (Some other) = Some (one + other)
 both one other = None

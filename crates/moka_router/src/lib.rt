@@ -1,4 +1,4 @@
-//! Which segment of a cache a key belongs to, which part of a capacity is a segment's, and what two of them have.
+//! Which segment of a cache a key belongs to, which part of a capacity is a segment's, and the capacity of all.
 #![tactic(auto)]
 
 pub mod capacity;

@@ -25,7 +25,7 @@ abbrev pub IsWritten : {S : Type 0} → (S → List ℕ → Bool → S → Type 
 IsWritten takes line good status old new = (taken : Bool) × takes old line taken new
     × (status ≡ (if taken then good else 3))
 
--- why reading stops: for memory exactly where the system says so
+-- why reading stops: for memory exactly if the system says so
 abbrev pub IsReadFailure : Error → Failure → Type 0
 IsReadFailure error OutOfMemory = error_kind error ≡ kind.OutOfMemory
 IsReadFailure error CannotRead = error_kind error ≢ kind.OutOfMemory

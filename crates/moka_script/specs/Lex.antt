@@ -36,7 +36,7 @@ number_or_none word = if bytes_eq word (codes "none") then Some None else option
 abbrev pub is_number : List ℕ → Bool
 is_number word = is_some (number_of 64 word)
 
--- what comes next, where there was something to read
+-- what comes next, if there was something to read
 infixl 10 ◌>>=◌
 abbrev pub ◌>>=◌ : {A B : Type 0} → Option A → (A → Option B) → Option B
 o >>= f = option_and_then f o

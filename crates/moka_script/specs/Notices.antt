@@ -16,7 +16,7 @@ pub record Kept : Type 0 where
   pub told : List ScriptNotice
   pub room : ℕ
 
--- a notice is kept where there is room
+-- a notice is kept if there is room
 abbrev pub Keeps : Kept → ℕ → List ℕ → RemovalCause → Kept → Type 0
 Keeps before key value cause after = after ≡ (if nat_lt (length before.told) before.room
     then record before { told = before.told ++ (key, value, cause) ∷ [] } else before)

@@ -35,7 +35,7 @@ read_by rules key value now left written = unwrap_or (answer_by rules Read key n
 abbrev pub updated_by : List Rule → ℕ → List ℕ → ℕ → Option ℕ → Option ℕ
 updated_by rules key value now left = unwrap_or (answer_by rules Update key now) left
 
--- an expiry is set exactly where there are rules
+-- an expiry is set exactly if there are rules
 abbrev pub expiry_of : List Rule → Option (List Rule)
 expiry_of [] = None
 expiry_of rules = Some rules

@@ -20,7 +20,7 @@ use Rattle.moka_script.specs.Calls.{CallText, call_text, told_call, call_of}
 abbrev pub LineText : Type 0
 LineText = Line (List ℕ) CallText
 
--- the same, where a value or a reading is still a part of the line
+-- the same, if a value or a reading is still a part of the line
 abbrev pub line_text : Line Readings LineCall → LineText
 line_text line.Nothing = line.Nothing
 line_text (line.Setting setting) = line.Setting setting
@@ -115,20 +115,20 @@ keeps_some script (text ∷ lines) =
 abbrev pub asks_for_memory : List ℕ → Bool
 asks_for_memory text = keeps_some no_text (lines_of text)
 
--- what is asked for is added exactly where it may stand, and memory may be refused to a rule, a clock or a call alone
+-- what is asked for is added exactly if it may stand, and memory may be refused to a rule, a clock or a call alone
 abbrev pub IsJoined : ScriptText → LineText → Result Bool Failure → ScriptText → Type 0
 IsJoined old asked (Ok is_right) new = joined old asked ≡ (if is_right then Some new else None)
 IsJoined old asked (Err failure.OutOfMemory) new = is_kept (Some asked) ≡ true
 IsJoined old asked (Err _) new = ⊥
 
--- what a line asks for is added exactly where it is right, and memory may be refused to a rule, a clock or a call alone
+-- what a line asks for is added exactly if it is right, and memory may be refused to a rule, a clock or a call alone
 abbrev pub IsAdded : ℕ → ScriptText → List ℕ → Result (Unit {0}) Failure → ScriptText → Type 0
 IsAdded number old text (Ok _) new = with_line old text ≡ Some new
 IsAdded number old text (Err (failure.BadLine n)) new = (n ≡ number) × (with_line old text ≡ None)
 IsAdded number old text (Err failure.OutOfMemory) new = is_kept (asked_in text) ≡ true
 IsAdded number old text (Err _) new = ⊥
 
--- reading succeeds exactly where each line is right, and else the first faulty line is named; memory may be refused to
+-- reading succeeds exactly if each line is right, and else the first faulty line is named; memory may be refused to
 -- the rules, the clock and the calls in front of it
 abbrev pub IsParseOf : List ℕ → Result Script Failure → Type 0
 IsParseOf text (Ok script) = script_of text ≡ Ok (text_of script)

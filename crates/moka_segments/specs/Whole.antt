@@ -27,12 +27,12 @@ module _ {K V S X L P W : Type 0} where
     loads = total (λ s. s.stats.loads) segments;
   }
 
-  -- the capacity of all, where each has one
+  -- the capacity of all, if each has one
   abbrev pub whole_capacity : List (Synchronous K V S X L P W) → Option ℕ
   whole_capacity [] = Some 0
   whole_capacity (s ∷ ss) = both s.engine.state.capacity (whole_capacity ss)
 
-  -- the weight of all is within the capacity of all, where each has one
+  -- the weight of all is within the capacity of all, if each has one
   abbrev pub IsWithinWhole : Option ℕ → List (Synchronous K V S X L P W) → Type 0
   IsWithinWhole None segments = ⊤
   IsWithinWhole (Some whole) segments = sum_by (λ s. s.engine.state.weight) segments ≤ whole

@@ -46,13 +46,14 @@ impl<
     S: BuildHasher,
 > SegmentedCache<K, V, X, L, P, W, S> {
     /// Registers a predicate in each segment in turn at the moment `now`: what it covers is hidden from now on, and
-    /// runs of maintenance remove it. `make` makes the predicate of each segment. The answer is the identifiers, one for
-    /// each segment, in order.
+    /// runs of maintenance remove it. `make` makes the predicate of each segment. The answer is the identifiers, one
+    /// for each segment, in order.
     ///
     /// # Errors
     /// As `Cache::invalidate_entries_if`, at the first segment that refuses, and if memory for its identifier is
     /// refused. The segments before it have the predicate, under the identifiers that come back; no other segment has
-    /// changed. If the call is made again, those before it have it twice, until a run of maintenance drops both.
+    /// changed. If the call is made again, those before it have it twice, until a run of maintenance drops both; one
+    /// of capacity 0 makes no runs.
     pub fn invalidate_entries_if<F: Fn() -> P, I: IdSource>(
         &mut self,
         make: F,

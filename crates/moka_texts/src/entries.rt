@@ -61,8 +61,7 @@ pub fn get_offered(cache: &mut Cached, call: Call, words: Words) -> Found {
     }
 }
 
-/// Makes a call that computes what is to be done: the key is left, its value is put, or it is taken out. In each second
-/// round it is the entry call that does so.
+/// Makes a call that computes what is to be done: the key is left, its value is put, or it is taken out.
 pub fn compute(cache: &mut Cached, call: Call, words: Words) -> Result<Option<String>, Refused> {
     let key = words.text(call.key);
     let op = match call.ask {
@@ -72,12 +71,7 @@ pub fn compute(cache: &mut Cached, call: Call, words: Words) -> Result<Option<St
     };
     let choose = |_: Option<&String>| op;
     let (now, clock) = (words.now, &mut FixedClock(words.now));
-    let computed = if words.number % 2 == 0 {
-        cache.compute_with(key, choose, now, clock)
-    } else {
-        cache.entry(key).and_compute_with(choose, now, clock)
-    };
-    match computed {
+    match cache.entry(key).and_compute_with(choose, now, clock) {
         Ok(done) => Ok(call.computed(done)),
         Err(refused) => Err(call.not_computed(refused, words)),
     }
@@ -194,11 +188,7 @@ fn are_asked(notes: &mut Notes, cache: &mut Cached, words: Words) -> bool {
 
 /// Whether all calls that compute what is to be done answer as they should.
 fn are_computed(notes: &mut Notes, cache: &mut Cached, words: Words) -> bool {
-    let name = if words.number % 2 == 0 {
-        "Cache::compute_with"
-    } else {
-        "OwnedKeyEntrySelector::and_compute_with"
-    };
+    let name = "OwnedKeyEntrySelector::and_compute_with";
     let mut is_right = true;
     for (ask, there) in COMPUTED {
         let row = [(ask, name, "value", there)];

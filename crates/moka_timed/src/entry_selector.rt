@@ -1,5 +1,5 @@
 //! Entry calls of the cache that owns its clock, at the moment that it reads at the start of each.
-ghost use Rattle.std.specs.Prelude.{◌≡◌, false, IfErr, Option, Result, option_copied};
+ghost use Rattle.std.specs.Prelude.{◌≡◌, false, true, IfErr, IsOk, Option, Result, option_copied};
 ghost use Rattle.moka_parts.specs.Calls.{ContainsStep};
 ghost use Rattle.moka_types.specs.declared.error.InsertRefused.{InsertRefused};
 ghost use Rattle.moka_calls.specs.Computing.{AndUpserts, AndComputes};
@@ -8,7 +8,7 @@ ghost use Rattle.moka_calls.specs.Given.{Sees};
 ghost use Rattle.moka_records.specs.Hashing.{key_hash};
 ghost use Rattle.moka_records.specs.Records.{record_of_key};
 ghost use Rattle.moka_engine.specs.Looks.{CanHandOutValue};
-ghost use Rattle.moka_cache.specs.Keyed.{IsOfChange, IsOfInsert};
+ghost use Rattle.moka_cache.specs.Keyed.{CanNotifyOfAny, IsNotOfNotice, IsOfChange, IsOfInsert};
 ghost use Rattle.moka_timed.specs.Moments.{AtItsMoment, AtAnyMoment};
 ghost use Rattle.moka_calls.specs.Synchronous.{meaning_of, hears_clones};
 
@@ -75,10 +75,17 @@ impl<
             K.is_clone V.is_clone self.entry.key
             (key_hash S.BuildHasher S.Hasher.Hasher old.engine.hasher (K.hash_input self.entry.key)) now
             old clock new clock_after value result) }
+        ensures succeeds { AtAnyMoment C.reads self.entry.cache.now.clock (λ now.
+            ContainsStep P.says K.eq self.entry.cache.now.cache.engine.state self.entry.key now.0 true)
+            → CanHandOutValue V.is_infallible
+            (record_of_key K.eq self.entry.cache.now.cache.engine.state.records self.entry.key) → IsOk result }
     {
         let TimedEntrySelector { cache: timed, key } = self;
         let now = timed.clock.now();
-        timed.cache.get_or_insert(key, value, now, &mut timed.clock)
+        timed
+            .cache
+            .entry(key)
+            .or_insert(value, now, &mut timed.clock)
     }
 
     /// As `OwnedKeyEntrySelector::or_insert_with`, at the clock's moment.
@@ -107,7 +114,8 @@ impl<
         let now = timed.clock.now();
         timed
             .cache
-            .get_or_insert_with(key, init, now, &mut timed.clock)
+            .entry(key)
+            .or_insert_with(init, now, &mut timed.clock)
     }
 
     /// As `OwnedKeyEntrySelector::or_optionally_insert_with`, at the clock's moment.
@@ -136,7 +144,8 @@ impl<
         let now = timed.clock.now();
         timed
             .cache
-            .get_or_optionally_insert_with(key, init, now, &mut timed.clock)
+            .entry(key)
+            .or_optionally_insert_with(init, now, &mut timed.clock)
     }
 
     /// As `OwnedKeyEntrySelector::or_try_insert_with`, at the clock's moment.
@@ -165,7 +174,8 @@ impl<
         let now = timed.clock.now();
         timed
             .cache
-            .get_or_try_insert_with(key, init, now, &mut timed.clock)
+            .entry(key)
+            .or_try_insert_with(init, now, &mut timed.clock)
     }
 
     /// As `OwnedKeyEntrySelector::and_upsert_with`, at the clock's moment.
@@ -192,7 +202,10 @@ impl<
     {
         let TimedEntrySelector { cache: timed, key } = self;
         let now = timed.clock.now();
-        timed.cache.upsert_with(key, f, now, &mut timed.clock)
+        timed
+            .cache
+            .entry(key)
+            .and_upsert_with(f, now, &mut timed.clock)
     }
 
     /// As `OwnedKeyEntrySelector::and_compute_with`, at the clock's moment.
@@ -218,9 +231,14 @@ impl<
             old clock new clock_after (λ seen op. (x : _) × (option_copied x ≡ seen) × F.post f x op) result) }
         ensures looks_up { CanHandOutValue V.is_infallible (record_of_key K.eq
             self.entry.cache.now.cache.engine.state.records self.entry.key) → IfErr result IsOfChange }
+        ensures notified { CanNotifyOfAny K.is_infallible V.is_infallible
+            self.entry.cache.now.cache.engine.state.settings.listening → IfErr result IsNotOfNotice }
     {
         let TimedEntrySelector { cache: timed, key } = self;
         let now = timed.clock.now();
-        timed.cache.compute_with(key, f, now, &mut timed.clock)
+        timed
+            .cache
+            .entry(key)
+            .and_compute_with(f, now, &mut timed.clock)
     }
 }

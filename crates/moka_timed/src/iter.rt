@@ -23,7 +23,7 @@ impl<
     W: Weigher<K, V>,
     S: BuildHasher,
 > TimedCache<K, V, C, X, L, P, W, S> {
-    /// The entries that are visible, each once, in no particular order: clones of key and value. Nothing is recorded.
+    /// As `Cache::iter`, at the clock's moment.
     ///
     /// # Errors
     /// As `Cache::iter`.

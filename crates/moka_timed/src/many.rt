@@ -1,8 +1,9 @@
 //! Calls for many keys at once, each at one moment of the clock.
-ghost use Rattle.std.specs.Prelude.{◌≡◌};
+ghost use Rattle.std.specs.Prelude.{◌≡◌, [], IfErr, IsOk};
 ghost use Rattle.moka_records.specs.Hashing.{key_hash};
 ghost use Rattle.moka_parts.specs.Counters.{after_look_ups};
 ghost use Rattle.moka_calls.specs.Many.{GetsMany, InsertsMany, InvalidatesMany, found_by};
+ghost use Rattle.moka_cache.specs.Keyed.{CanNotifyOfAny};
 ghost use Rattle.moka_timed.specs.Moments.{AtItsMoment};
 ghost use Rattle.moka_calls.specs.Synchronous.{Makes, hears_clones, meaning_of};
 
@@ -42,6 +43,8 @@ impl<
             Makes (meaning_of K.eq L.tells P.says W.weighs C.reads X.created X.read X.updated)
             (GetsMany V.is_clone (λ key. key_hash S.BuildHasher S.Hasher.Hasher old.engine.hasher (K.hash_input key))
             now keys.now result) old.engine clock new.engine clock_after) }
+        ensures looks_up { ((value : V) → V.is_infallible value) → IfErr result (λ refused. (refused.found.items ≡ [])
+            × (self.new.cache.engine.state ≡ self.old.cache.engine.state)) }
         ensures counted { self.new.cache.stats ≡ after_look_ups (found_by result) self.old.cache.stats }
     {
         let now = self.clock.now();
@@ -81,6 +84,8 @@ impl<
             X.created X.read X.updated)
             (InvalidatesMany (λ key. key_hash S.BuildHasher S.Hasher.Hasher old.engine.hasher (K.hash_input key))
             now keys.now result) old.engine clock new.engine clock_after) }
+        ensures succeeds { CanNotifyOfAny K.is_infallible V.is_infallible
+            self.old.cache.engine.state.settings.listening → IsOk result }
         ensures counted { self.new.cache.stats ≡ self.old.cache.stats }
     {
         let now = self.clock.now();

@@ -18,7 +18,7 @@ module _ {Z V X P W : Type 0} (s : State (String Z) V X P W) where
   IsSeen now None found = found ≡ false
   IsSeen now (Some r) found = found ≡ not (has_lapsed s.settings s.invalid_before r now)
 
-  -- whether a text is found tells whether the record of its name is seen, where no predicates are registered
+  -- whether a text is found tells whether the record of its name is seen, if no predicates are registered
   abbrev pub IsFoundAt : List ℕ → ℕ → Bool → Type 0
   IsFoundAt name now found = s.predicates ≡ [] → (key : String Z) → string_bytes key ≡ name
       → IsSeen now (record_of_key string_eq s.records key) found

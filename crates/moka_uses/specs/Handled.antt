@@ -1,4 +1,4 @@
--- Calls that are made once more where they are refused.
+-- Calls that are made once more if they are refused.
 use Rattle.std.specs.Prelude.{◌≡◌, ◌==◌, ◌⊎◌, ℕ, Bool, Option, Some, None, Result, Ok, Err, IfErr}
 use Rattle.moka_engine.specs.parts.Call.TheVariants as call
 use Rattle.moka_engine.specs.parts.CapacityError.{CapacityError}
@@ -19,7 +19,7 @@ use Rattle.moka_uses.specs.Made.{Inserts, IsOneCall, Registers, simple_meaning}
 
 module _ {K V S X L P W C : Type 0} (m : Meaning K V X L P W C (Unit {0})) (key : K) (value : V) (now : Instant)
     (old : Engine K V S X L P W) (clock : C) (new : Engine K V S X L P W) (clock_after : C) where
-  -- an insert, and only where memory for it was refused the same once more; no other call
+  -- an insert, and only if memory for it was refused the same once more; no other call
   abbrev pub InsertsOrRetries : Result (Unit {0}) (InsertRefused K V) → Type 0
   InsertsOrRetries result = (Inserts m key now old clock new clock_after value result
       × IfErr result (λ refused. refused.error ≡ insert_error.NumbersUsedUp))
@@ -28,7 +28,7 @@ module _ {K V S X L P W C : Type 0} (m : Meaning K V X L P W C (Unit {0})) (key 
       (Err (record { error = insert_error.OutOfMemory; key = key; value = value }))
       × Inserts m key now mid between new clock_after value result)
 
--- what is handed out where a second look-up answered so
+-- what is handed out if a second look-up answered so
 abbrev pub found_or_refused : {V : Type 0} → Result (Option V) OutOfMemory → Result V OutOfMemory
 found_or_refused (Ok (Some value)) = Ok value
 found_or_refused (Ok None) = Err (record {})
@@ -37,7 +37,7 @@ found_or_refused (Err refused) = Err (record {})
 module _ {K V S X L P W C : Type 0} (m : Meaning K V X L P W C (Unit {0})) (is_clone : V → V → Type 0) (key : K)
     (now : Instant) where
   -- what was done after a get with a maker: what it handed out is handed out, and a value that was made and not kept
-  -- too; where its look-up was refused, another one was made
+  -- too; if its look-up was refused, another one was made
   abbrev pub GoesOnAfter : Result V (GetWithRefused K V) → Synchronous K V S X L P W → C → Synchronous K V S X L P W →
       C → Result V OutOfMemory → Type 0
   GoesOnAfter (Ok value) mid between new clock_after result = (new ≡ mid) × (clock_after ≡ between)
@@ -58,7 +58,7 @@ ReadsThroughOrRetries {K} {V} {S} {X} {L} {P} {W} {C} m is_clone key now old clo
     × GetsWith m is_clone key hash now old clock mid between Answers got
     × GoesOnAfter m is_clone key now got mid between new clock_after result
 
--- what the parts of a cache of numbers mean where predicates and the source of identifiers answer so
+-- what the parts of a cache of numbers mean if predicates and the source of identifiers answer so
 abbrev pub hiding_meaning : {X L P W I : Type 0} → (P → ℕ → ℕ → Bool → Type 0) → (I → Uuid → I → Type 0) →
     Meaning ℕ ℕ X L P W (Unit {0}) I
 hiding_meaning says gives = simple_meaning (λ a b. a == b) says (λ _ _ _. ⊥) gives

@@ -13,7 +13,7 @@ abbrev pub meaning : {X L W I : Type 0} → (I → Uuid → I → Type 0) → Me
 meaning gives =
     simple_meaning (λ a b. a == b) (λ below _ value answer. answer ≡ nat_lt value below.0) (λ _ _ _. ⊥) gives
 
--- the same where no identifier is asked for
+-- the same if no identifier is asked for
 abbrev pub run_meaning : {X L W : Type 0} → Meaning ℕ ℕ X L Below W (Unit {0}) (Unit {0})
 run_meaning = meaning (λ _ _ _. ⊥)
 

@@ -8,6 +8,7 @@ pub mod Refused
 pub mod Handled
 pub mod Resized
 pub mod Asked
+pub mod Notified
 pub mod Late
 pub mod Weighed
 pub mod ReadThrough

@@ -37,7 +37,7 @@ module _ {X W : Type 0} (s : State ℕ Session X OfUser W) (number : ℕ) where
   abbrev pub HasEnded : Type 0
   HasEnded = (later : ℕ) (shown : Bool) → ContainsStep is_of (λ a b. a == b) s number later shown → shown ≡ false
 
--- nor is one shown after calls none of which begins a session under the number, where moments never go back
+-- nor is one shown after calls none of which begins a session under the number, if moments never go back
 abbrev pub StaysEnded : {X L W C I : Type 0} → Meaning ℕ Session X L OfUser W C I → State ℕ Session X OfUser W → ℕ → ℕ →
     Type 0
 StaysEnded {X} {L} {W} m s number now = (steps : List (Step ℕ Session X OfUser W)) (later : ℕ) (shown : Bool) →

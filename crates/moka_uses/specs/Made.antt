@@ -18,7 +18,7 @@ use Rattle.moka_engine.specs.State.{Meaning, State, Events}
 use Rattle.moka_engine.specs.Surroundings.{Leads}
 use Rattle.moka_cache.specs.Synchronous.{Synchronous, GetsValue, InsertsEntry, Makes, RemovesEntry, fresh, hears_clones}
 
--- what the parts of a cache mean that has no listener, no expiry but by times and no weigher, where keys, predicates,
+-- what the parts of a cache mean that has no listener, no expiry but by times and no weigher, if keys, predicates,
 -- clock and source of identifiers answer so
 abbrev pub simple_meaning : {K V X L P W C I : Type 0} → (K → K → Bool) → (P → K → V → Bool → Type 0) →
     (C → Instant → C → Type 0) → (I → Uuid → I → Type 0) → Meaning K V X L P W C I

@@ -1,4 +1,4 @@
--- An insert whose operation is sent at once, after a run where the queue is full.
+-- An insert whose operation is sent at once, after a run if the queue is full.
 use Rattle.std.specs.Prelude.{◌≡◌, ◌⊎◌, ℕ, Bool, Some, None, Result, Ok, Err}
 use Rattle.std.specs.FinMap.{get, remove}
 use Rattle.moka_engine.specs.parts.Call.TheVariants as call
@@ -19,7 +19,7 @@ IsSent ticket s t = (o : Operation) × (get s.outstanding ticket ≡ Some o)
     × (t.outstanding ≡ remove s.outstanding ticket)
 
 module _ {K V S X L P W C I : Type 0} (m : Meaning K V X L P W C I) where
-  -- a send; where the queue was full a run and another send; no other call
+  -- a send; if the queue was full a run and another send; no other call
   abbrev pub SendsAfterAll : Ticket → Instant → Engine K V S X L P W → Engine K V S X L P W →
       Result (Unit {0}) SendError → Type 0
   SendsAfterAll ticket now old new result = IsOneCall m old new (call.Send ticket) (reply.Send result)
@@ -28,7 +28,7 @@ module _ {K V S X L P W C I : Type 0} (m : Meaning K V X L P W C I) where
       × IsOneCall m full emptied (call.Run now None 1 384) (reply.Run more)
       × IsOneCall m emptied new (call.Send ticket) (reply.Send result))
 
-  -- an insert, done or refused, and where it was done such a send; no other call
+  -- an insert, done or refused, and if it was done such a send; no other call
   abbrev pub InsertsAndSends : K → V → Instant → Engine K V S X L P W → Engine K V S X L P W →
       Result (Unit {0}) (InsertRefused K V) → Type 0
   InsertsAndSends key value now old new (Ok done) = (hash : ℕ) × (mid : Engine K V S X L P W)

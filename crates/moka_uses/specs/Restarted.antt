@@ -70,7 +70,7 @@ pub record ArePutBack {X P W : Type 0} (weighs : W → ℕ → ℕ → ℕ → T
   pub adds : AddsOnly saved begun s
   pub hides : HidesNoMore begun s
 
--- the sessions of the first are those of the second, where those end by this idle time alone: at each moment that is
+-- the sessions of the first are those of the second, if those end by this idle time alone: at each moment that is
 -- before neither of the two, each user has the same in both
 abbrev pub AreHandedOver : {X P W : Type 0} → (P → ℕ → ℕ → Bool → Type 0) → ℕ → ℕ → ℕ → State ℕ ℕ X P W →
     State ℕ ℕ X P W → Type 0

@@ -1,6 +1,7 @@
 //! A caller that handles each refusal of the synchronous cache.
-ghost use Rattle.std.specs.Prelude.{◌≡◌, ◌==◌, ◌⊎◌, ◌++◌, ◌∷◌, [], false, true, max, None, Some, IfErr, IfOk, IfSome, OnErr, option_map};
+ghost use Rattle.std.specs.Prelude.{◌≡◌, ◌==◌, ◌⊎◌, ◌++◌, ◌∷◌, [], false, true, max, None, Some, IfErr, IfOk, IfSome, IsOk, OnErr, option_map};
 ghost use Rattle.moka_engine.specs.Calls.{ContainsStep};
+ghost use Rattle.moka_engine.specs.Looks.{CanHandOutValue};
 ghost use Rattle.moka_engine.specs.Records.{record_of_key};
 ghost use Rattle.moka_engine.specs.State.{is_disabled};
 ghost use Rattle.moka_cache.specs.Given.{IsHandedOut};
@@ -67,7 +68,7 @@ pub fn take<V: Clone + Drop, L: Listener<u64, V>, C: Clock>(
 /// handed out all the same. If the look-up is refused, it is made once more, with the key that came back.
 ///
 /// # Errors
-/// `OutOfMemory` if the second look-up is refused too.
+/// `OutOfMemory` if the second look-up is refused too: never if no clone of the value that is there is refused.
 pub fn value_or_made<V: Clone + Drop, F: FnOnce() -> V, C: Clock>(
     cache: &mut Cache<u64, V>,
     key: u64,
@@ -82,6 +83,8 @@ pub fn value_or_made<V: Clone + Drop, F: FnOnce() -> V, C: Clock>(
     ensures given { IfOk result (λ value. F.post make value
         ⊎ IsHandedOut (λ a b. a == b) (λ _ _ _ answer. answer ≡ false) V.is_clone cache.old.engine.state key now.0
         (F.post make) value) }
+    ensures succeeds { CanHandOutValue V.is_infallible
+        (record_of_key (λ a b. a == b) cache.old.engine.state.records key) → IsOk result }
 {
     match cache.get_with(key, make, now, clock) {
         Ok(value) => Ok(value),

@@ -1,4 +1,5 @@
 //! Calls of a cache that owns its clock, joined into one list, however far the clock moves between them.
+ghost use Rattle.std.specs.Prelude.{IsOk};
 ghost use Rattle.moka_cache.specs.Synchronous.{meaning_of};
 ghost use Rattle.moka_uses.specs.Joined.{DrivesBoth};
 
@@ -9,12 +10,13 @@ use moka_engine::{
 use moka_timed::TimedCache;
 use std::hash::Hash;
 
-/// Puts an entry in, and looks a key up. Each call reads the clock first, so each is taken to one that may tell any
-/// moment, and joined there (`made_anytime`): both are one run of the reference cache that keeps all that is promised
-/// of a list of calls.
+/// Puts an entry in, and looks a key up. Each call reads the clock first, and is made at the moment that it tells. So
+/// each is taken to a clock that may tell any moment, and joined there (`made_anytime`): both are one run of the
+/// reference cache that keeps all that is promised of a list of calls.
 ///
 /// # Errors
-/// As `TimedCache::insert` the first, and as `TimedCache::get` the second, which is made in any case.
+/// As `TimedCache::insert` the first, and as `TimedCache::get` the second, which is made in any case, and never refused
+/// if no clone of a value is.
 pub fn put_and_find<
     K: Eq + Hash + Clone + Drop,
     V: Clone + Drop,
@@ -31,8 +33,10 @@ pub fn put_and_find<
     Result<(), InsertRefused<K, V>>,
     Result<Option<V>, OutOfMemory>,
 )
-    ensures { DrivesBoth (meaning_of K.eq L.tells P.says W.weighs C.reads X.created X.read X.updated) V.is_clone
-        entry.0 entry.1 sought.now result.0 result.1 cache.old.cache.engine cache.new.cache.engine }
+    ensures made { DrivesBoth (meaning_of K.eq L.tells P.says W.weighs C.reads X.created X.read X.updated) V.is_clone
+        entry.0 entry.1 sought.now result.0 result.1 cache.old.cache.engine cache.old.clock
+        cache.new.cache.engine cache.new.clock }
+    ensures found { ((value : V) → V.is_infallible value) → IsOk result.1 }
 {
     made_anytime::<K, V, DefaultHasher, X, L, P, W, C>();
     cache.cache.engine().invariant_holds();

@@ -1,6 +1,6 @@
 //! Sessions of users who may have several: each ends if it is not used, a log-out ends all that a user has, by a
 //! predicate, and those that have not ended are saved when the program ends.
-ghost use Rattle.std.specs.Prelude.{◌≡◌, ◌==◌, true, false, is_some, Some, IfErr, IfOk, IfSome, OnErr};
+ghost use Rattle.std.specs.Prelude.{◌≡◌, ◌==◌, true, false, is_some, Some, IfErr, IfOk, IfSome, IsOk, OnErr};
 ghost use Rattle.std.specs.Duration.{as_nanos};
 ghost use Rattle.moka_engine.specs.parts.Instant.{Instant};
 ghost use Rattle.moka_engine.specs.Calls.{ContainsStep};
@@ -93,7 +93,7 @@ pub fn log_in<C: Clock>(
 /// Uses the session of a number: the session, if it is visible at the clock's moment, and else `None`.
 ///
 /// # Errors
-/// `OutOfMemory`
+/// Never: cloning a session takes no memory.
 pub fn find<C: Clock>(logins: &mut Logins<C>, number: u64) -> Result<Option<Session>, OutOfMemory>
     ensures shown { (now : Instant) × (read : C) × C.reads logins.old.clock now read
         × IfOk result
@@ -102,6 +102,7 @@ pub fn find<C: Clock>(logins: &mut Logins<C>, number: u64) -> Result<Option<Sess
         logins.new.cache.engine logins.new.clock result }
     ensures kept { IfOk result (λ found.
         IfSome found (HasValue (λ a b. a == b) logins.old.cache.engine.state number)) }
+    ensures succeeds { IsOk result }
     ensures unchanged { OnErr result (logins.new.cache.engine.state ≡ logins.old.cache.engine.state) }
 {
     logins.get(&number)

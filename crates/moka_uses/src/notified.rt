@@ -2,6 +2,7 @@
 ghost use Rattle.std.specs.Prelude.{◌≡◌, ◌==◌, Some, IfOk};
 ghost use Rattle.std.specs.FinMap.{empty};
 ghost use Rattle.moka_cache.specs.Unsent.{IsThere};
+ghost use Rattle.moka_uses.specs.Notified.{PutsInTurn};
 
 use anyhow::Result;
 use moka_engine::{CacheConfig, Engine, Instant, Listener, NoExpiry, RemovalCause};
@@ -35,6 +36,7 @@ pub fn replace(
     ensures notified { IfOk result (λ cache. cache.listener ≡ Some (record { count = 1 })) }
     ensures sent { IfOk result (λ cache. cache.state.outstanding ≡ empty) }
     ensures replaced { IfOk result (λ cache. IsThere (λ a b. a == b) cache.state key second (record { 0 = 0 })) }
+    ensures made { IfOk result (PutsInTurn (record { 0 = 0 }) key first second) }
 {
     let now = Instant(0);
     let config = CacheConfig::default().eviction_listener(Counter { count: 0 });

@@ -1,9 +1,12 @@
 //! A read-through cache of profiles, each of which lasts a while, with a listener that counts what leaves.
-ghost use Rattle.std.specs.Prelude.{◌≡◌, ◌==◌, false, IfOk, Some};
+ghost use Rattle.std.specs.Prelude.{◌≡◌, ◌==◌, false, IfErr, IfOk, Some};
 ghost use Rattle.std.specs.Duration.{as_nanos};
 ghost use Rattle.moka_engine.specs.parts.Instant.{Instant};
 ghost use Rattle.moka_engine.specs.Config.{default_config};
+ghost use Rattle.moka_engine.specs.Looks.{CanHandOutValue};
+ghost use Rattle.moka_engine.specs.Records.{record_of_key};
 ghost use Rattle.moka_cache.specs.Given.{IsHandedOut};
+ghost use Rattle.moka_cache.specs.Keyed.{IsOfInsert};
 ghost use Rattle.moka_cache.specs.Removed.{no_removals};
 ghost use Rattle.moka_uses.specs.Made.{IsNew};
 ghost use Rattle.moka_uses.specs.ReadThrough.{ReadsThrough, counting_meaning};
@@ -42,19 +45,21 @@ pub fn start<V: Drop, C: Clock + Drop>(
 /// kept.
 ///
 /// # Errors
-/// As `TimedCache::get_with`.
+/// As `TimedCache::get_with`: of the insert alone if no clone of the profile that is kept is refused.
 pub fn profile<V: Clone + Drop, C: Clock, F: FnOnce() -> V>(
     profiles: &mut Profiles<V, C>,
     user: u64,
     read: F,
 ) -> Result<V, GetWithRefused<u64, V>>
     requires { F.pre read }
-    ensures { (now : Instant) × (read_clock : C) × C.reads profiles.old.clock now read_clock
+    ensures made { (now : Instant) × (read_clock : C) × C.reads profiles.old.clock now read_clock
         × IfOk result (λ profile. IsHandedOut (λ a b. a == b)
         (λ _ _ _ answer. answer ≡ false) V.is_clone profiles.old.cache.engine.state user
         now.0 (F.post read) profile)
         × ReadsThrough (counting_meaning (λ a b. a == b) C.reads) V.is_clone user now profiles.old.cache read_clock
         profiles.new.cache profiles.new.clock (F.post read) result }
+    ensures looks_up { CanHandOutValue V.is_infallible
+        (record_of_key (λ a b. a == b) profiles.old.cache.engine.state.records user) → IfErr result IsOfInsert }
 {
     profiles.get_with(user, read)
 }

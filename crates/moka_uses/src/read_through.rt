@@ -1,7 +1,10 @@
 //! A read-through cache over a source that can fail.
 ghost use Rattle.std.specs.Prelude.{ℕ, false, None, Ok, Err, IfOk, IfErr};
 ghost use Rattle.moka_engine.specs.Calls.{ContainsStep};
+ghost use Rattle.moka_engine.specs.Looks.{CanHandOutValue};
+ghost use Rattle.moka_engine.specs.Records.{record_of_key};
 ghost use Rattle.moka_cache.specs.Given.{ComesBack, IsHandedOut};
+ghost use Rattle.moka_cache.specs.Keyed.{IsOfInsert};
 ghost use Rattle.moka_cache.specs.Synchronous.{GetsWithIfNoError, meaning_of};
 ghost use Rattle.moka_uses.specs.Made.{LooksUp};
 
@@ -14,7 +17,7 @@ use std::hash::Hash;
 ///
 /// # Errors
 /// The inner error is the source's. The outer one, as of `Cache::try_get_with`, has the key, and the source's value if
-/// it gave one.
+/// it gave one; it is of the insert alone if no clone of the value that is there is refused.
 pub fn look_up<
     K: Eq + Hash + Clone + Drop,
     V: Clone + Drop,
@@ -43,6 +46,8 @@ pub fn look_up<
         cache.old.engine clock.old cache.new.engine clock.new (Ok None))) }
     ensures back { IfErr result
         (ComesBack cache.old.engine.state cache.new.engine.state key (λ value. F.post ask (Ok value))) }
+    ensures looks_up { CanHandOutValue V.is_infallible (record_of_key K.eq cache.old.engine.state.records key)
+        → IfErr result IsOfInsert }
 {
     cache.try_get_with(key, ask, now, clock)
 }

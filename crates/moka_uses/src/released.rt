@@ -1,8 +1,9 @@
 //! A cache with a listener that gives back what a value held.
 ghost use Rattle.moka_engine.specs.Copies.{ClonesAreEqual};
-ghost use Rattle.std.specs.Prelude.{◌≡◌, None, Option, Result};
+ghost use Rattle.std.specs.Prelude.{◌≡◌, IsOk, None, Option, Result};
 ghost use Rattle.moka_engine.specs.parts.OutOfMemory.{OutOfMemory};
 ghost use Rattle.moka_engine.specs.Records.{record_of_key};
+ghost use Rattle.moka_cache.specs.Keyed.{CanNotify};
 ghost use Rattle.moka_cache.specs.Synchronous.{invalidated, meaning_of};
 ghost use Rattle.moka_uses.specs.Released.{DrivesRemoval};
 
@@ -34,10 +35,12 @@ impl<K: Drop, V: Drop> Listener<K, V> for Places {
 pub type Connections = Cache<u64, u64, NoExpiry, Places>;
 
 /// Closes what is kept under a key. This is a run of the reference cache that keeps all that is promised of a list of
-/// calls (`keeps_promises`): if a listener is set, each value that leaves is handed to it exactly once (`told_once`).
+/// calls (`keeps_promises`): if a listener is set, the value that is closed is handed to it exactly once, unless that is
+/// refused (`is_run`, by `NotifiesAfter`), and so is each other that leaves (`told_once`).
 ///
 /// # Errors
-/// `NotTold`, with the value, of which the listener was not told: its place is the caller's to give back.
+/// `NotTold`, with the value, of which the listener was not told: its place is the caller's to give back. Only a clone
+/// of key or value for the listener can be refused.
 pub fn close<
     K: Eq + Hash + Clone + Drop,
     V: Clone + Drop,
@@ -58,6 +61,8 @@ pub fn close<
         × DrivesRemoval (meaning_of K.eq L.tells P.says W.weighs C.reads X.created X.read X.updated)
         key.now now taken cache.old.engine clock.old cache.new.engine clock.new }
     ensures gone { record_of_key K.eq cache.new.engine.state.records key.now ≡ None }
+    ensures succeeds { CanNotify K.is_infallible V.is_infallible cache.old.engine.state.settings.listening
+        (record_of_key K.eq cache.old.engine.state.records key.now) → IsOk result }
 {
     hears_themselves::<K, V, DefaultHasher, X, L, P, W, C>();
     keeps_promises::<K, V, DefaultHasher, X, L, P, W, C>();

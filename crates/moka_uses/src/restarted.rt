@@ -111,7 +111,10 @@ pub fn hand_over<C: Clock, D: Clock + Drop>(
     clock: D,
 ) -> Result<Sessions<D>, OutOfMemory>
     ensures idle { IfOk result (λ again. again.cache.engine.state.settings.time_to_idle ≡ Some (as_nanos idle)) }
-    ensures begun { IfOk result (λ again. (saved : List (Restored _ _)) × AreBegunAgain (sessions_meaning D.reads)
+    ensures begun { (now : Instant) × (read : C) × C.reads sessions.old.clock now read
+        × IfOk result (λ again. (saved : List (Restored _ _)) × AreSaved (λ _ _ _ answer. answer ≡ false)
+        (λ a b. b ≡ a) (λ a b. b ≡ a) (scene_of sessions.new.cache.engine.state now.0)
+        sessions.new.cache.engine.state.access saved × AreBegunAgain (sessions_meaning D.reads)
         (idling (as_nanos idle)) clock saved again.cache again.clock) }
     ensures handed_over { (saved : Instant) × (read : C) × C.reads sessions.old.clock saved read
         × Runs (sessions_meaning C.reads) saved sessions.old.cache.engine read

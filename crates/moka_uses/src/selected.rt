@@ -1,8 +1,11 @@
 //! Entry calls by moka's names: a value that is put only if its key is not there.
-ghost use Rattle.std.specs.Prelude.{◌≡◌, IfErr, IfOk};
+ghost use Rattle.std.specs.Prelude.{◌≡◌, true, IfErr, IfOk, IsOk};
 ghost use Rattle.moka_cache.specs.Entries.{OrInserts};
 ghost use Rattle.moka_cache.specs.Given.{IsHandedOut};
+ghost use Rattle.moka_engine.specs.Calls.{ContainsStep};
 ghost use Rattle.moka_engine.specs.Hashing.{key_hash};
+ghost use Rattle.moka_engine.specs.Looks.{CanHandOutValue};
+ghost use Rattle.moka_engine.specs.Records.{record_of_key};
 ghost use Rattle.moka_cache.specs.Synchronous.{meaning_of};
 
 use moka_cache::{Cache, CacheEntry};
@@ -13,7 +16,8 @@ use std::hash::{BuildHasher, Hash};
 /// was put.
 ///
 /// # Errors
-/// As `Cache::get_or_insert`: key and value come back.
+/// As `OwnedKeyEntrySelector::or_insert`: key and value come back. Of a key that is visible only the clone of its value
+/// can be refused.
 pub fn put_if_absent<
     K: Eq + Hash + Clone + Drop,
     V: Clone + Drop,
@@ -37,6 +41,8 @@ pub fn put_if_absent<
     ensures given { IfOk result (λ entry.
         IsHandedOut K.eq P.says V.is_clone cache.old.engine.state key now.0 (λ v. v ≡ value) entry.value) }
     ensures back { IfErr result (λ refused. (refused.key ≡ key) × (refused.value ≡ value)) }
+    ensures succeeds { ContainsStep P.says K.eq cache.old.engine.state key now.0 true → CanHandOutValue V.is_infallible
+        (record_of_key K.eq cache.old.engine.state.records key) → IsOk result }
 {
     cache.entry(key).or_insert(value, now, clock)
 }

@@ -1,12 +1,18 @@
 //! A cache in segments that keeps its bound, and each key in one segment, each of which is a cache of its own.
-ghost use Rattle.std.specs.Prelude.{◌≡◌, ◌≤◌, IfErr, IfSome};
+ghost use Rattle.std.specs.Prelude.{◌≡◌, ◌≤◌, true, IfErr, IfSome, IsOk};
+ghost use Rattle.moka_engine.specs.Calls.{ContainsStep};
 ghost use Rattle.moka_engine.specs.Hashing.{key_hash};
+ghost use Rattle.moka_engine.specs.Looks.{CanHandOutValue};
+ghost use Rattle.moka_engine.specs.Records.{record_of_key};
 ghost use Rattle.moka_cache.specs.Synchronous.{meaning_of};
+ghost use Rattle.moka_router.specs.Routing.{segment_of};
 ghost use Rattle.moka_segments.specs.Keys.{AreInOneSegment, KeysBelong};
+ghost use Rattle.moka_segments.specs.Segmented.{Steps};
 ghost use Rattle.moka_segment_laws.specs.Moves.{InsertsThenGets};
 ghost use Rattle.moka_segments.specs.Whole.{saturated, total, whole_capacity};
 ghost use Rattle.moka_uses.specs.Shared.{EachRan, GetsOrPuts, InsertsAndFinds, InsertsInOne, OrInsertsInOne};
 
+use crate::selected::put_if_absent;
 use moka_cache::CacheEntry;
 use moka_engine::{
     Clock, Expiry, FixedClock, InsertRefused, Instant, Listener, OutOfMemory, PredicateFn, Weigher,
@@ -77,7 +83,8 @@ pub fn put_where_it_belongs<
 /// segment is one run of the reference cache, of those of the two that are its own (`own_calls_run`).
 ///
 /// # Errors
-/// As `SegmentedCache::insert` the first, and as `SegmentedCache::get` the second, which is made in any case.
+/// As `SegmentedCache::insert` the first, and as `SegmentedCache::get` the second, which is made in any case, and never
+/// refused if no clone of a value is.
 pub fn put_and_find<
     K: Eq + Hash + Clone + Drop,
     V: Clone + Drop,
@@ -103,6 +110,7 @@ pub fn put_and_find<
     ensures runs { InsertsThenGets (λ h k. key_hash S.BuildHasher S.Hasher.Hasher h (K.hash_input k))
         (meaning_of K.eq L.tells P.says W.weighs C.reads X.created X.read X.updated) K.is_clone V.is_clone
         entry.0 entry.1 sought.now now result.0 result.1 cache.old cache.new }
+    ensures found { ((value : V) → V.is_infallible value) → IsOk result.1 }
 {
     own_calls_run::<K, V, S, X, L, P, W, C>();
     calls_by_key_are_moves::<K, V, S, X, L, P, W, C>();
@@ -116,7 +124,8 @@ pub fn put_and_find<
 /// key belongs to, and so a move of this segment, as the cache's own calls by key are (`lent_calls_are_moves`).
 ///
 /// # Errors
-/// As `Cache::get_or_insert`: key and value come back, and nothing was put in.
+/// As `OwnedKeyEntrySelector::or_insert`: key and value come back, and nothing was put in. Of a key that is visible in
+/// its segment only the clone of its value can be refused.
 pub fn get_or_put<
     K: Eq + Hash + Clone + Drop,
     V: Clone + Drop,
@@ -139,8 +148,12 @@ pub fn get_or_put<
     ensures moves { GetsOrPuts (λ h k. key_hash S.BuildHasher S.Hasher.Hasher h (K.hash_input k))
         (meaning_of K.eq L.tells P.says W.weighs C.reads X.created X.read X.updated) K.is_clone V.is_clone key now
         cache.old clock.old cache.new clock.new }
+    ensures succeeds { Steps (segment_of cache.old.routing.count
+        (key_hash S.BuildHasher S.Hasher.Hasher cache.old.routing.hasher (K.hash_input key)))
+        (λ old new. ContainsStep P.says K.eq old.engine.state key now.0 true → CanHandOutValue V.is_infallible
+        (record_of_key K.eq old.engine.state.records key) → IsOk result) cache.old cache.new }
 {
     lent_calls_are_moves::<K, V, S, X, L, P, W, C>();
     let own = cache.segment_of(&key);
-    cache.segment_mut(own).get_or_insert(key, value, now, clock)
+    put_if_absent(cache.segment_mut(own), key, value, now, clock)
 }

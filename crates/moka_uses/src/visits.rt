@@ -1,6 +1,7 @@
 //! Visits, counted by page.
 ghost use Rattle.std.specs.Prelude.{◌≡◌, IfErr, IfOk, IfSome, Ok, option_copied};
 ghost use Rattle.moka_cache.specs.Given.{ComesBack};
+ghost use Rattle.moka_cache.specs.Keyed.{IsNotOfNotice, IsOfChange, IsOfInsert};
 ghost use Rattle.moka_uses.specs.Made.{LooksUp};
 ghost use Rattle.moka_uses.specs.Visits.{HasLeft, IsFull, PutsCount, RefusesCount, RefusesTake, RemovesCount, count_at, meaning, next_count, op_for, page_of};
 
@@ -12,7 +13,7 @@ use moka_engine::{Clock, DefaultHasher, Instant, NoExpiry, NoListener, NoPredica
 /// moment `now`, or 1 if none is. The count stays at `u64::MAX`.
 ///
 /// # Errors
-/// As `Cache::upsert_with`: the page comes back, and with `Insert` the count that was not put.
+/// `Insert`, with the page and the count that was not put. Cloning a number takes no memory, so no look-up is refused.
 pub fn count<C: Clock>(
     visits: &mut Cache<u64, u64>,
     page: u64,
@@ -26,6 +27,7 @@ pub fn count<C: Clock>(
         (λ count. count ≡ next_count visits.old.engine.state page now.0)) }
     ensures refused { IfErr result
         (RefusesCount (meaning C.reads) page now visits.old.engine clock.old visits.new.engine clock.new) }
+    ensures looks_up { IfErr result IsOfInsert }
 {
     let one_more = |seen: Option<u64>| seen.unwrap_or(0).saturating_add(1);
     let entry = visits.entry(page).and_upsert_with(one_more, now, clock)?;
@@ -37,7 +39,8 @@ pub fn count<C: Clock>(
 /// is only looked up, and the answer is `None`.
 ///
 /// # Errors
-/// As `Cache::compute_with`: the page comes back.
+/// As `OwnedKeyEntrySelector::and_compute_with`: the page comes back. Cloning numbers takes no memory, so neither the
+/// look-up nor the notice of a removal is refused.
 pub fn take_full<C: Clock>(
     visits: &mut Cache<u64, u64>,
     page: u64,
@@ -56,6 +59,8 @@ pub fn take_full<C: Clock>(
     ensures back { IfErr result (λ refused. page_of refused ≡ page) }
     ensures refused { IfErr result
         (RefusesTake (meaning C.reads) page now visits.old.engine clock.old visits.new.engine clock.new limit) }
+    ensures looks_up { IfErr result IsOfChange }
+    ensures notified { IfErr result IsNotOfNotice }
 {
     hears_themselves::<u64, u64, DefaultHasher, NoExpiry, NoListener, NoPredicate, NoWeigher, C>();
     let remove_full = move |seen: Option<&u64>| -> Op<u64>

@@ -20,8 +20,8 @@ impl<
     W: Weigher<K, V>,
     S: BuildHasher,
 > Cache<K, V, X, L, P, W, S> {
-    /// The entries that are visible at the moment `now`, each once, in no particular order: clones of key and value.
-    /// Nothing is recorded.
+    /// The entries that are visible at the moment `now`, each once if clones of keys are equal to them, in no special
+    /// order: clones of key and value. Nothing is recorded.
     ///
     /// ```text
     /// for (key, value) in cache.iter(now)? {

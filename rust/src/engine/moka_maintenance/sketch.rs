@@ -11,8 +11,8 @@ use crate::engine::moka_store::Store;
 use crate::support::hash::{BuildHasher, Hash};
 
 /// Makes the sketch's table under TinyLFU, once half of a capacity other than 0 is taken. It has about a word for each
-/// entry that finds room: with a weigher, as many as find room at the mean weight of today's. If memory for so long
-/// a table is refused, it has 128 words.
+/// unit of the capacity; with a weigher, for each present entry times the part of the capacity that all of them take.
+/// If memory for so long a table is refused, it has 128 words.
 pub fn enable_frequency_sketch<K: Eq + Hash, V, S: BuildHasher>(
     store: &Store<K, V, S>,
     sketch: &mut FrequencySketch,
@@ -39,7 +39,7 @@ fn is_due(sketch: &FrequencySketch, capacity: u64, policy: EvictionPolicy, weigh
         && u128::from(capacity / 2) <= weight
 }
 
-// The size that is asked for: as many entries as find room at their mean weight, which is 1 without a weigher.
+// The size that is asked for: the capacity; with a weigher the members times the part of the capacity that they take.
 fn size_asked(has_weigher: bool, capacity: u64, members: usize, weight: u128) -> u64
 {
     if !has_weigher {

@@ -20,8 +20,8 @@ impl<
     W: Weigher<K, V>,
     S: BuildHasher,
 > SegmentedCache<K, V, X, L, P, W, S> {
-    /// The entries of all segments that are visible at the moment `now`, each once: clones of key and value, segment
-    /// after segment, and in no particular order within one. Nothing is recorded.
+    /// The entries of all segments that are visible at the moment `now`, as `Cache::iter` lists them: segment after
+    /// segment, and in no particular order within one. Nothing is recorded.
     ///
     /// # Errors
     /// `OutOfMemory` if memory for a list or for a clone is refused.

@@ -130,24 +130,26 @@ fn makes_values(cache: &mut Tested) -> bool {
 // Whether a key has no entry after a maker that gives none and one that fails, and then the first that is put.
 fn inserts_entries(cache: &mut Tested) -> bool {
     let clock = &mut FixedClock(NOW);
-    let declined = cache.get_or_optionally_insert_with(1, nothing, NOW, clock);
+    let declined = cache
+        .entry(1)
+        .or_optionally_insert_with(nothing, NOW, clock);
     let is_declined = matches!(declined, Ok(None));
-    let failed = cache.get_or_try_insert_with(1, failing, NOW, clock);
+    let failed = cache.entry(1).or_try_insert_with(failing, NOW, clock);
     let is_failed = matches!(failed, Ok(Err(7)));
-    let put = cache.get_or_insert(1, 10, NOW, clock);
+    let put = cache.entry(1).or_insert(10, NOW, clock);
     let is_put = is_entry(put, (10, true, false));
-    let found = cache.get_or_insert_with(1, twenty, NOW, clock);
+    let found = cache.entry(1).or_insert_with(twenty, NOW, clock);
     is_declined && is_failed && is_put && is_entry(found, (10, false, false))
 }
 
 // Whether a value is put, another one in its place, and that one is taken out.
 fn computes(cache: &mut Tested) -> bool {
     let clock = &mut FixedClock(NOW);
-    let put = cache.upsert_with(1, one_more, NOW, clock);
+    let put = cache.entry(1).and_upsert_with(one_more, NOW, clock);
     let is_put = is_entry(put, (1, true, false));
-    let replaced = cache.upsert_with(1, one_more, NOW, clock);
+    let replaced = cache.entry(1).and_upsert_with(one_more, NOW, clock);
     let is_replaced = is_entry(replaced, (2, true, true));
-    let taken = cache.compute_with(1, taken_out, NOW, clock);
+    let taken = cache.entry(1).and_compute_with(taken_out, NOW, clock);
     is_put
         && is_replaced
         && matches!(taken, Ok(CompResult::Removed(_)))

@@ -58,7 +58,10 @@ impl<
     {
         let TimedEntrySelector { cache: timed, key } = self;
         let now = timed.clock.now();
-        timed.cache.get_or_insert(key, value, now, &mut timed.clock)
+        timed
+            .cache
+            .entry(key)
+            .or_insert(value, now, &mut timed.clock)
     }
 
     /// As `OwnedKeyEntrySelector::or_insert_with`, at the clock's moment.
@@ -77,7 +80,8 @@ impl<
         let now = timed.clock.now();
         timed
             .cache
-            .get_or_insert_with(key, init, now, &mut timed.clock)
+            .entry(key)
+            .or_insert_with(init, now, &mut timed.clock)
     }
 
     /// As `OwnedKeyEntrySelector::or_optionally_insert_with`, at the clock's moment.
@@ -96,7 +100,8 @@ impl<
         let now = timed.clock.now();
         timed
             .cache
-            .get_or_optionally_insert_with(key, init, now, &mut timed.clock)
+            .entry(key)
+            .or_optionally_insert_with(init, now, &mut timed.clock)
     }
 
     /// As `OwnedKeyEntrySelector::or_try_insert_with`, at the clock's moment.
@@ -115,7 +120,8 @@ impl<
         let now = timed.clock.now();
         timed
             .cache
-            .get_or_try_insert_with(key, init, now, &mut timed.clock)
+            .entry(key)
+            .or_try_insert_with(init, now, &mut timed.clock)
     }
 
     /// As `OwnedKeyEntrySelector::and_upsert_with`, at the clock's moment.
@@ -132,7 +138,10 @@ impl<
     {
         let TimedEntrySelector { cache: timed, key } = self;
         let now = timed.clock.now();
-        timed.cache.upsert_with(key, f, now, &mut timed.clock)
+        timed
+            .cache
+            .entry(key)
+            .and_upsert_with(f, now, &mut timed.clock)
     }
 
     /// As `OwnedKeyEntrySelector::and_compute_with`, at the clock's moment.
@@ -149,6 +158,9 @@ impl<
     {
         let TimedEntrySelector { cache: timed, key } = self;
         let now = timed.clock.now();
-        timed.cache.compute_with(key, f, now, &mut timed.clock)
+        timed
+            .cache
+            .entry(key)
+            .and_compute_with(f, now, &mut timed.clock)
     }
 }

@@ -50,7 +50,7 @@ pub fn take<V: Clone, L: Listener<u64, V>, C: Clock>(
 /// handed out all the same. If the look-up is refused, it is made once more, with the key that came back.
 ///
 /// # Errors
-/// `OutOfMemory` if the second look-up is refused too.
+/// `OutOfMemory` if the second look-up is refused too: never if no clone of the value that is there is refused.
 pub fn value_or_made<V: Clone, F: FnOnce() -> V, C: Clock>(
     cache: &mut Cache<u64, V>,
     key: u64,

@@ -9,12 +9,13 @@ use crate::engine::moka_engine::{
 use crate::proved_tests::moka_timed::TimedCache;
 use crate::support::hash::Hash;
 
-/// Puts an entry in, and looks a key up. Each call reads the clock first, so each is taken to one that may tell any
-/// moment, and joined there (`made_anytime`): both are one run of the reference cache that keeps all that is promised
-/// of a list of calls.
+/// Puts an entry in, and looks a key up. Each call reads the clock first, and is made at the moment that it tells. So
+/// each is taken to a clock that may tell any moment, and joined there (`made_anytime`): both are one run of the
+/// reference cache that keeps all that is promised of a list of calls.
 ///
 /// # Errors
-/// As `TimedCache::insert` the first, and as `TimedCache::get` the second, which is made in any case.
+/// As `TimedCache::insert` the first, and as `TimedCache::get` the second, which is made in any case, and never refused
+/// if no clone of a value is.
 pub fn put_and_find<
     K: Eq + Hash + Clone,
     V: Clone,

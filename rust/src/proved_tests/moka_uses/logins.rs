@@ -68,7 +68,7 @@ pub fn log_in<C: Clock>(
 /// Uses the session of a number: the session, if it is visible at the clock's moment, and else `None`.
 ///
 /// # Errors
-/// `OutOfMemory`
+/// Never: cloning a session takes no memory.
 pub fn find<C: Clock>(logins: &mut Logins<C>, number: u64) -> Result<Option<Session>, OutOfMemory>
 {
     logins.get(&number)

@@ -31,7 +31,7 @@ pub fn start<V, C: Clock>(
 /// kept.
 ///
 /// # Errors
-/// As `TimedCache::get_with`.
+/// As `TimedCache::get_with`: of the insert alone if no clone of the profile that is kept is refused.
 pub fn profile<V: Clone, C: Clock, F: FnOnce() -> V>(
     profiles: &mut Profiles<V, C>,
     user: u64,

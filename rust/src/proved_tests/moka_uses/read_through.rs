@@ -11,7 +11,7 @@ use crate::support::hash::Hash;
 ///
 /// # Errors
 /// The inner error is the source's. The outer one, as of `Cache::try_get_with`, has the key, and the source's value if
-/// it gave one.
+/// it gave one; it is of the insert alone if no clone of the value that is there is refused.
 pub fn look_up<
     K: Eq + Hash + Clone,
     V: Clone,

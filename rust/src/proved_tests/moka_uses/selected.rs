@@ -10,7 +10,8 @@ use crate::support::hash::{BuildHasher, Hash};
 /// was put.
 ///
 /// # Errors
-/// As `Cache::get_or_insert`: key and value come back.
+/// As `OwnedKeyEntrySelector::or_insert`: key and value come back. Of a key that is visible only the clone of its value
+/// can be refused.
 pub fn put_if_absent<
     K: Eq + Hash + Clone,
     V: Clone,

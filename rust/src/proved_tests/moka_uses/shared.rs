@@ -2,6 +2,7 @@
 //! A cache in segments that keeps its bound, and each key in one segment, each of which is a cache of its own.
 use crate::support::prelude::*;
 
+use crate::proved_tests::moka_uses::selected::put_if_absent;
 use crate::engine::moka_cache::CacheEntry;
 use crate::engine::moka_engine::{
     Clock, Expiry, FixedClock, InsertRefused, Instant, Listener, OutOfMemory, PredicateFn, Weigher,
@@ -61,7 +62,8 @@ pub fn put_where_it_belongs<
 /// segment is one run of the reference cache, of those of the two that are its own (`own_calls_run`).
 ///
 /// # Errors
-/// As `SegmentedCache::insert` the first, and as `SegmentedCache::get` the second, which is made in any case.
+/// As `SegmentedCache::insert` the first, and as `SegmentedCache::get` the second, which is made in any case, and never
+/// refused if no clone of a value is.
 pub fn put_and_find<
     K: Eq + Hash + Clone,
     V: Clone,
@@ -94,7 +96,8 @@ pub fn put_and_find<
 /// key belongs to, and so a move of this segment, as the cache's own calls by key are (`lent_calls_are_moves`).
 ///
 /// # Errors
-/// As `Cache::get_or_insert`: key and value come back, and nothing was put in.
+/// As `OwnedKeyEntrySelector::or_insert`: key and value come back, and nothing was put in. Of a key that is visible in
+/// its segment only the clone of its value can be refused.
 pub fn get_or_put<
     K: Eq + Hash + Clone,
     V: Clone,
@@ -114,5 +117,5 @@ pub fn get_or_put<
 {
     lent_calls_are_moves::<K, V, S, X, L, P, W, C>();
     let own = cache.segment_of(&key);
-    cache.segment_mut(own).get_or_insert(key, value, now, clock)
+    put_if_absent(cache.segment_mut(own), key, value, now, clock)
 }

@@ -10,7 +10,7 @@ use crate::engine::moka_engine::{Clock, DefaultHasher, Instant, NoExpiry, NoList
 /// moment `now`, or 1 if none is. The count stays at `u64::MAX`.
 ///
 /// # Errors
-/// As `Cache::upsert_with`: the page comes back, and with `Insert` the count that was not put.
+/// `Insert`, with the page and the count that was not put. Cloning a number takes no memory, so no look-up is refused.
 pub fn count<C: Clock>(
     visits: &mut Cache<u64, u64>,
     page: u64,
@@ -28,7 +28,8 @@ pub fn count<C: Clock>(
 /// is only looked up, and the answer is `None`.
 ///
 /// # Errors
-/// As `Cache::compute_with`: the page comes back.
+/// As `OwnedKeyEntrySelector::and_compute_with`: the page comes back. Cloning numbers takes no memory, so neither the
+/// look-up nor the notice of a removal is refused.
 pub fn take_full<C: Clock>(
     visits: &mut Cache<u64, u64>,
     page: u64,

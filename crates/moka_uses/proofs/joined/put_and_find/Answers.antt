@@ -4,8 +4,8 @@ use Rattle.moka_engine.specs.Settling.{IsValid}
 use Rattle.moka_engine.specs.State.{keeps_write_list}
 use Rattle.moka_uses.proofs.joined.put_and_find.Goals as goal
 
-pub returns : goal.returns
-returns g c =
+pub returns-clause-made : goal.returns-clause-made
+returns-clause-made g c =
     let laws = c.made_anytime.ensures.themselves in
     let old = c.args.cache.now.cache.engine in
     let mid = c.insert-put.new.self.cache.engine in
@@ -23,6 +23,12 @@ returns g c =
       _,
       first,
       later,
+      read,
+      c.insert-put.new.self.clock,
+      read_again,
+      mid,
+      told,
+      told_again,
       own,
       copied,
       inserting,
@@ -30,6 +36,11 @@ returns g c =
       inserted,
       got,
       inserts,
+      put,
       gets,
+      found,
       laws.keeps_promises (inserting ++ getting) (inserted ++ got) old new tt tt valid listed made,
     )
+
+pub returns-clause-found : goal.returns-clause-found
+returns-clause-found g c = λ granted. c.get-found.ensures.succeeds (λ r there. granted r.value)

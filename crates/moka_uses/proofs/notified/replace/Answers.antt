@@ -1,4 +1,5 @@
-use Rattle.std.proofs.Common.{◌≡◌, ◌==◌, ◌+◌, min, rules, ap, sym, subst, ◌∙◌, None}
+use Rattle.std.proofs.Common.{◌≡◌, ◌==◌, ◌+◌, min, rules, refl, ap, sym, subst, ◌∙◌, None}
+use Rattle.moka_engine.specs.Calls.{no_events}
 use Rattle.moka_engine.specs.State.{is_disabled}
 use Rattle.moka_engine.specs.Time.{greatest}
 use Rattle.std.specs.Cmp.{nat_eq_equiv}
@@ -44,4 +45,19 @@ returns c =
       sent = put_and_sent n.state o.state p.state _ other last (put_and_sent l.state m.state n.state _ one sent (ap (λ x. x.state.outstanding) c.in_ok-cache.ensures.empty));
       replaced = kept_where_held (λ a b. a == b) nat_eq_equiv c.args.key c.args.second (record { 0 = 0 }) _ o.state p.state c.invariant_holds-2.ensures.valid kept
           (subst (IsHeld kept.made.number kept.made) (sym (send_holds o.state _ _ p.state c.in_ok-send-2.ensures.step)) kept.held);
+      made = (
+        l,
+        m,
+        n,
+        o,
+        c.hash-hash.result,
+        c.hash-hash.result,
+        (c.in_ok-put.put, c.in_ok-put.field-0-1),
+        (c.in_ok-replaced.replaced, c.in_ok-replaced.field-0-1),
+        rw c.default.ensures at (rw c.eviction_listener-config.ensures at c.in_ok-cache.ensures.empty),
+        (put.0, put.1, put.2, tt),
+        (no_events, (c.in_ok-send.ensures.step, refl), c.in_ok-send.ensures.events, tt),
+        (again.0, again.1, again.2, tt),
+        (no_events, (c.in_ok-send-2.ensures.step, refl), c.in_ok-send-2.ensures.events, tt),
+      );
     }

@@ -31,4 +31,5 @@ returns g c =
       given = given _ _ c.try_get_with.result got.2.4;
       failed = failed _ g.V.Clone.is_clone c.args.key _ c.args.now c.args.cache.now.engine c.try_get_with.new.self.engine c.args.clock.now c.try_get_with.new.clock _ _ got.0 got.1 c.try_get_with.result got.2.1 got.2.2 got.2.4;
       back = got.2.5;
+      looks_up = c.try_get_with.ensures.looks_up;
     }

@@ -52,4 +52,6 @@ returns-clause-handed_over g c =
     )
 
 pub returns-clause-begun : goal.returns-clause-begun
-returns-clause-begun g c = (c.in_ok-saved.saved.items, c.in_ok-again.ensures.made)
+returns-clause-begun g c =
+    let (saved, read, reads, items, ran) = c.in_ok-saved.ensures.saved in
+    (saved, read, reads, (c.in_ok-saved.saved.items, items, c.in_ok-again.ensures.made))

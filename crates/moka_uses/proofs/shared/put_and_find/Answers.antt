@@ -17,3 +17,6 @@ returns-clause-runs g c =
       c.own_calls_run.ensures.runs (first ++ later) c.args.cache.now c.get-found.new.self c.args.clock.now c.get-found.new.clock
           (c.own_calls_run.ensures.go_on first later c.args.cache.now c.insert-put.new.self c.get-found.new.self c.args.clock.now c.insert-put.new.clock c.get-found.new.clock moved moved_on),
     )
+
+pub returns-clause-found : goal.returns-clause-found
+returns-clause-found g c = λ granted. c.get-found.ensures.succeeds.one.step (λ r there. granted r.value)

@@ -1,4 +1,4 @@
-use Rattle.std.proofs.Common.{◌≡◌, false, ◌∙◌, refl, sym, subst, ℕ, Option, Some, None, Ok, Err, true≢false}
+use Rattle.std.proofs.Common.{◌≡◌, false, ◌∙◌, ap, refl, sym, subst, ℕ, Option, Some, None, Ok, Err, true≢false}
 use Rattle.std.specs.Prelude.{IfSome, Result}
 use Rattle.moka_types.specs.declared.error.OutOfMemory.{OutOfMemory}
 use Rattle.moka_records.specs.Hashing.{key_hash}
@@ -6,7 +6,8 @@ use Rattle.moka_records.proofs.Options.{none_by_test}
 use Rattle.moka_calls.specs.declared.compute.CompResult.TheVariants.{StillNone, Unchanged}
 use Rattle.moka_calls.specs.Computing.{Computed, HandsOutComputedPut, HandsOutLeft, Left, LeftNone, Puts, Takes}
 use Rattle.moka_calls.specs.Synchronous.{GetsValue}
-use Rattle.moka_cache.proofs.Computing.{computed_put, computed_take, heard, refused_put, refused_take, was_seen}
+use Rattle.moka_cache.proofs.Computing.{computed_put, computed_take, heard, put_not_told, refused_put, refused_take, was_seen}
+use Rattle.moka_cache.proofs.Settings.{kept_by_get}
 use Rattle.moka_cache.proofs.cache.Cache.compute_with.Goals as goal
 
 same_takes : {K V : Type 0} (a b : Option (V × Result (Unit {0}) OutOfMemory)) → ◌≡◌ {A = Option (Computed K V)} (Some (Takes a)) (Some (Takes b)) → a ≡ b
@@ -82,6 +83,16 @@ returns-in-Put-clause-looks_up g c = λ _. (let put = c.put_computed.ensures.mad
 
 pub returns-then-is_there-clause-looks_up : goal.returns-then-is_there-clause-looks_up
 returns-then-is_there-clause-looks_up g c = λ _. (let took = c.remove_computed.ensures.made in refused_take g.K.Clone.is_clone g.V.Clone.is_clone c.args.key took.0 c.remove_computed.result took.1)
+
+pub returns-in-Put-clause-notified : goal.returns-in-Put-clause-notified
+returns-in-Put-clause-notified g c = λ _. (let put = c.put_computed.ensures.made in put_not_told g.K.Clone.is_clone g.V.Clone.is_clone c.args.key c.is_some-is_there.result put.0 c.put_computed.result put.1)
+
+pub returns-then-is_there-clause-notified : goal.returns-then-is_there-clause-notified
+returns-then-is_there-clause-notified g c = λ granted.
+    let hash = key_hash g.S.BuildHasher g.S.Hasher.Hasher c.args.self.now.engine.hasher (g.K.Hash.hash_input c.args.key) in
+    let got = c.in-Ok.ensures.made in
+    let settings = kept_by_get _ c.args.self.now.engine c.get_hashed.new.self.engine c.args.clock.now c.get_hashed.new.clock c.args.key hash c.args.now got.0 got.2 in
+    c.remove_computed.ensures.notified (λ listening. granted (sym (ap (λ settings. settings.listening) settings) ∙ listening))
 
 pub f-requires : goal.f-requires
 f-requires g c = c.requires.callable c.as_ref.result (rw c.as_ref.ensures.value c.in-Ok.ensures.sees)

@@ -1,4 +1,4 @@
-use Rattle.std.proofs.Common.{◌∙◌, ap, arith, rules, sym, refl, ℕ, [], ◌∷◌, ◌++◌, append_assoc, append-nil, length, map, inl, inr, Option, Ok, Err}
+use Rattle.std.proofs.Common.{◌∙◌, ap, arith, rules, sym, refl, true≢false, ℕ, [], ◌∷◌, ◌++◌, append_assoc, append-nil, length, map, inl, inr, Option, Ok, Err}
 use Rattle.std.proofs.lemmas.List.{map-append, nil_from_length}
 use Rattle.moka_types.specs.declared.error.OutOfMemory.{OutOfMemory}
 use Rattle.moka_records.specs.Hashing.{key_hash}
@@ -69,3 +69,6 @@ returns-clause-made g c =
 
 pub returns-clause-counted : goal.returns-clause-counted
 returns-clause-counted g c = c.loop-key.invariant.counted
+
+pub returns-in-Err-clause-looks_up : goal.returns-in-Err-clause-looks_up
+returns-in-Err-clause-looks_up g c = λ granted. absurd (true≢false (sym (c.in-Err.ensures.succeeds (λ r there. granted r.value))))
