@@ -1,5 +1,6 @@
 //! Whether a call is in the middle of a change.
 
+use std::mem;
 use std::sync::Arc;
 use std::sync::atomic::{AtomicBool, Ordering::Relaxed};
 
@@ -24,13 +25,22 @@ impl Mark {
         self.0.load(Relaxed)
     }
 
-    /// Runs code of the caller's in a call that has changed nothing yet.
+    /// Runs code of the caller's in a call that has changed nothing yet, or all that it had to. If that panics the mark
+    /// is clear then, and else as it was.
     #[inline]
     pub fn before_changes<R>(&self, code: impl FnOnce() -> R) -> R {
-        let was_set = self.is_set();
-        self.clear();
+        let unmarking = Unmarking(self);
         let answer = code();
-        self.0.store(was_set, Relaxed);
+        mem::forget(unmarking);
         answer
+    }
+}
+
+/// Clears a mark if a panic drops this.
+struct Unmarking<'a>(&'a Mark);
+
+impl Drop for Unmarking<'_> {
+    fn drop(&mut self) {
+        self.0.clear();
     }
 }

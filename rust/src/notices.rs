@@ -3,12 +3,14 @@
 use crate::RemovalCause;
 use crate::engine::moka_engine::Listener;
 use crate::key::Key;
+use std::any::Any;
 use std::cell::{Cell, RefCell};
 use std::collections::VecDeque;
 use std::mem::{self, ManuallyDrop};
-use std::panic::{AssertUnwindSafe, catch_unwind};
+use std::panic::{AssertUnwindSafe, catch_unwind, resume_unwind};
 use std::sync::atomic::{AtomicBool, Ordering};
 use std::sync::{Arc, Condvar, Mutex, MutexGuard, PoisonError};
+use std::{iter, thread};
 
 /// The caller's listener.
 pub(crate) type Told<K, V> = Arc<dyn Fn(Arc<K>, V, RemovalCause) + Send + Sync>;
@@ -117,10 +119,40 @@ pub(crate) struct Left<K, V> {
 }
 
 impl<K, V> Left<K, V> {
+    fn of(first: Notice<K, V>) -> Self {
+        let more = Vec::new();
+        Left { first, more }
+    }
+
     /// Adds what left later.
     pub fn append(&mut self, later: Self) {
         self.more.push(later.first);
         self.more.extend(later.more);
+    }
+
+    /// Drops all, each for itself, since two that panic at once would end the process. The first panic goes on then,
+    /// unless another is under way.
+    pub fn drop_each(self) {
+        let mut first = None;
+        for (key, value, _) in iter::once(self.first).chain(self.more) {
+            drop_caught(key, &mut first);
+            drop_caught(value, &mut first);
+        }
+        match first {
+            Some(panic) if thread::panicking() => mem::forget(panic),
+            Some(panic) => resume_unwind(panic),
+            None => (),
+        }
+    }
+}
+
+// Drops a key or a value. A panic is the first, or forgotten: its own drop may panic too.
+fn drop_caught<T>(left: T, first: &mut Option<Box<dyn Any + Send>>) {
+    if let Err(panic) = catch_unwind(AssertUnwindSafe(|| drop(left))) {
+        match first {
+            None => *first = Some(panic),
+            Some(_) => mem::forget(panic),
+        }
     }
 }
 
@@ -211,12 +243,13 @@ impl<K, V> Notices<K, V> {
     }
 
     // A listener that panicked is notified no more. Nothing panics here, so the turn is always given back.
-    fn tell(&self, (key, value, cause): Notice<K, V>) {
+    fn tell(&self, notice: Notice<K, V>) {
         let _awaited = Awaited::new();
         let told = catch_unwind(AssertUnwindSafe(move || {
             if self.has_panicked.load(Ordering::Relaxed) {
-                drop((key, value));
+                Left::of(notice).drop_each();
             } else {
+                let (key, value, cause) = notice;
                 (self.listener)(key, value, cause);
             }
         }));
@@ -274,10 +307,7 @@ impl<K, V> Teller<K, V> {
 fn keep<K, V>(left: &mut Option<Left<K, V>>, notice: Notice<K, V>) {
     match left {
         Some(left) => left.more.push(notice),
-        None => {
-            let more = Vec::new();
-            *left = Some(Left { first: notice, more });
-        }
+        None => *left = Some(Left::of(notice)),
     }
 }
 

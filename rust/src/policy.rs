@@ -269,7 +269,7 @@ pub struct Stats {
     pub misses: u64,
     /// Values that were made by `get_with` and its like, and put there.
     pub loads: u64,
-    /// Makers that gave no value, by `None`, an error or a panic.
+    /// Loads that put no value there: the maker gave none, by `None` or an error, or something panicked.
     pub load_failures: u64,
     /// Values that left because their time was over.
     pub expired: u64,

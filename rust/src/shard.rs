@@ -85,7 +85,7 @@ impl IdSource for Chosen {
     }
 }
 
-/// A test of the caller's in a call that then takes an entry out.
+/// A test of the caller's in a call that may change something, before or after it is asked.
 struct ByTest<'a, F> {
     test: F,
     mark: &'a Mark,
@@ -99,7 +99,7 @@ impl<K: Eq + Hash, F: Fn(&Arc<K>) -> bool> KeyTest<Key<'static, K>> for ByTest<'
     }
 }
 
-/// A test of the caller's in a call that is not marked.
+/// A test of the caller's in a call that changes nothing.
 struct Passing<F>(F);
 
 impl<K: Eq + Hash, F: Fn(&Arc<K>) -> bool> KeyTest<Key<'static, K>> for Passing<F> {
@@ -147,6 +147,8 @@ impl Visits {
 pub(crate) struct Shard<K: 'static, V> {
     cache: Cache<K, V>,
     clock: Elapsed,
+    // The same as the clock's, for a test in a call that borrows the clock.
+    mark: Mark,
     // The moment of the last call. It never goes back, and each invalidation has one of its own.
     now: Instant,
     calls_until_reading: u32,
@@ -173,10 +175,14 @@ impl<K: Eq + Hash + 'static, V> Shard<K, V> {
         start: std::time::Instant,
     ) -> Self {
         let mark = Mark::default();
-        let clock = Elapsed { start, mark };
+        let clock = Elapsed {
+            start,
+            mark: mark.clone(),
+        };
         Shard {
             cache: cache(&settings, settings.initial_capacity, capacity, &clock),
             clock,
+            mark,
             now: Instant(0),
             calls_until_reading: 0,
             visit_at: Instant(0),
@@ -206,20 +212,15 @@ impl<K: Eq + Hash + 'static, V> Shard<K, V> {
         self.counted = self.stats();
         (self.unasked, self.rereads) = (0, 0);
         self.cache = empty;
-        self.clock.mark.clear();
-    }
-
-    /// Whether a panic left the cache in the middle of a change, so that the next call that may change it empties it.
-    pub fn is_broken(&self) -> bool {
-        self.clock.mark.is_set()
+        self.mark.clear();
     }
 
     // Makes a call that changes the cache. A panic of the caller's own code leaves the mark, unless it came before.
     #[inline]
     fn change<R>(&mut self, call: impl FnOnce(&mut Cache<K, V>, &mut Elapsed) -> R) -> R {
-        self.clock.mark.set();
+        self.mark.set();
         let answer = call(&mut self.cache, &mut self.clock);
-        self.clock.mark.clear();
+        self.mark.clear();
         answer
     }
 
@@ -323,8 +324,10 @@ impl<K: Eq + Hash + 'static, V> Shard<K, V> {
         V: Clone,
     {
         let now = self.read_clock();
-        let found = self.cache.get_by(&Passing(test), hash, now, &mut self.clock);
-        self.clock.mark.clear();
+        let mark = &self.mark;
+        // A hit that makes a run looks for its place anew: the test is asked again, after the mark was set.
+        let found = self.cache.get_by(&ByTest { test, mark }, hash, now, &mut self.clock);
+        mark.clear();
         self.keep_bound(now);
         found.ok().flatten()
     }
@@ -455,18 +458,13 @@ impl<K: Eq + Hash + 'static, V> Shard<K, V> {
     where
         V: Clone,
     {
-        let value = self.make(init)?;
-        self.insert_kept(hash, Arc::clone(&key), value.clone());
-        Ok(Entry::put(key, value, is_replaced))
-    }
-
-    // Makes a value. The load has failed until it has not.
-    fn make<E>(&mut self, init: impl FnOnce() -> Result<V, E>) -> Result<V, E> {
+        // The load has failed until the value is there.
         self.counted.load_failures += 1;
         let value = init()?;
+        self.insert_kept(hash, Arc::clone(&key), value.clone());
         self.counted.load_failures -= 1;
         self.counted.loads += 1;
-        Ok(value)
+        Ok(Entry::put(key, value, is_replaced))
     }
 
     /// Takes a key's entry out, and hands out its value, also one that has expired. The listener is notified.
@@ -475,7 +473,7 @@ impl<K: Eq + Hash + 'static, V> Shard<K, V> {
         V: Clone,
     {
         let now = self.read_clock();
-        let mark = &self.clock.mark.clone();
+        let mark = &self.mark;
         let test = |kept: &Arc<K>| test(kept);
         mark.set();
         let removed = self.cache.remove_by(&ByTest { test, mark }, hash, now, &mut self.clock);
@@ -555,14 +553,6 @@ impl<K: Eq + Hash + 'static, V> Shard<K, V> {
         self.cache.engine().scanning_get(&key, self.glance()).ok()?
     }
 
-    pub fn entry_count(&self) -> u64 {
-        self.cache.entry_count()
-    }
-
-    pub fn weighted_size(&self) -> u64 {
-        self.cache.weighted_size()
-    }
-
     /// What was counted.
     pub fn stats(&self) -> Stats {
         let (looks, left) = (self.cache.stats(), self.cache.removals());
@@ -579,6 +569,25 @@ impl<K: Eq + Hash + 'static, V> Shard<K, V> {
 }
 
 impl<K: 'static, V> Shard<K, V> {
+    /// Whether a panic left the cache in the middle of a change, so that the next call that may change it empties it.
+    pub fn is_broken(&self) -> bool {
+        self.mark.is_set()
+    }
+
+    /// How many entries the last run left, none in a shard that is to be emptied.
+    pub fn entry_count(&self) -> u64 {
+        if self.is_broken() { 0 } else { self.cache.entry_count() }
+    }
+
+    /// Their weight.
+    pub fn weighted_size(&self) -> u64 {
+        if self.is_broken() {
+            0
+        } else {
+            self.cache.weighted_size()
+        }
+    }
+
     #[inline]
     fn teller(&self) -> Option<&Teller<K, V>> {
         let counting = self.cache.engine().listener()?;

@@ -30,6 +30,7 @@ pub use iter::Iter;
 
 use self::calls::{Place, Places};
 use crate::engine::moka_segments::Router;
+use crate::notices::locked;
 use crate::settings::{Settings, Tests};
 use crate::shard::Shard;
 use crate::{Policy, PredicateError, Stats};
@@ -73,7 +74,13 @@ struct Shared<K: 'static, V, S> {
 /// calls the cache: if 1,024 notices are pending, that one may wait for it. Nor may it put back each value that leaves
 /// with `Size`: another leaves for it, so the call never ends. A call by which nothing left neither calls the listener
 /// nor waits for it. If a maker or a closure of an entry calls the cache, the listener may be called within it: then it
-/// must not have a value made or computed for that key, nor for one whose maker or closure may wait for that key.
+/// must not have a value made or computed for that key, nor for one whose maker or closure may wait for that key. If
+/// the listener may have a value made or computed for a key, the maker or closure of that key must not wait for another
+/// thread that calls the cache: that one may wait for the listener, and the listener for the maker or closure.
+///
+/// Of what left by the look-up of `and_upsert_with`, `and_compute_with` or `and_try_compute_with` the call notifies the
+/// listener when the closure has returned, if no other has: the closure must not wait for what that frees. Without a
+/// listener it is dropped before the closure is called: its `Drop` must not make one of these calls for that key.
 ///
 /// The weigher, the expiry and predicates, `Eq` of keys and `Clone` of values may be called under the lock of a shard:
 /// they must neither call the cache nor wait for a lock that a thread holds while it calls the cache. The same holds
@@ -83,12 +90,13 @@ struct Shared<K: 'static, V, S> {
 /// # Panics of the caller's own code
 /// A panic goes on to the caller whose call it was. One of `Eq`, `Hash`, the weigher, the expiry, a predicate or `Clone`
 /// in a look-up, a maker of `get_with`, a closure of an entry, the listener, or `Drop` (but that of what a predicate
-/// has captured) changes nothing; after its first panic the listener is not notified again.
+/// has captured) changes nothing. Once a panic of the listener is caught it is not notified again; until then other
+/// threads may notify it of what left other shards.
 ///
 /// If a predicate panics in a run of maintenance, or the `Clone` of a value that is taken out by `remove`, `invalidate`
-/// or an entry call, the shard is **emptied** by the next call for it: its entries are gone, and the listener is not
-/// notified of them. That is the whole cache if there is one shard, as by default with a weigher or a capacity below
-/// 2,048.
+/// or an entry call, the shard is **emptied** by the next call for it but `entry_count` and `weighted_size`, which
+/// answer 0 of it: its entries are gone, and the listener is not notified of them. That is the whole cache if there is
+/// one shard, as by default with a weigher or a capacity below 2,048.
 pub struct Cache<K: 'static, V, S = RandomState>(Arc<Shared<K, V, S>>);
 
 impl<K, V, S> Clone for Cache<K, V, S> {
@@ -186,6 +194,34 @@ impl<K: 'static, V, S> Cache<K, V, S> {
             time_to_live: settings.time_to_live,
             time_to_idle: settings.time_to_idle,
         }
+    }
+
+    /// How many entries the last runs of maintenance left.
+    ///
+    /// ```
+    /// let cache = ravulemis::sync::Cache::new(100);
+    /// cache.insert(1, 'a');
+    /// cache.run_pending_tasks();
+    /// assert_eq!(cache.entry_count(), 1);
+    /// ```
+    pub fn entry_count(&self) -> u64 {
+        let places = self.0.places.all.iter();
+        places.map(|place| locked(&place.shard).entry_count()).sum()
+    }
+
+    /// The total weight that the last runs of maintenance left.
+    ///
+    /// ```
+    /// # use ravulemis::sync::Cache;
+    /// let cache = Cache::builder().weigher(|_, text: &String| text.len() as u32).build();
+    /// cache.insert(1, "four".to_string());
+    /// cache.run_pending_tasks();
+    /// assert_eq!(cache.weighted_size(), 4);
+    /// ```
+    pub fn weighted_size(&self) -> u64 {
+        let places = self.0.places.all.iter();
+        let weights = places.map(|place| locked(&place.shard).weighted_size());
+        weights.fold(0, u64::saturating_add)
     }
 }
 
@@ -377,35 +413,6 @@ where
                 runs = self.with(place, |shard| shard.run_pending_tasks()).min(runs - 1);
             }
         }
-    }
-
-    /// How many entries the last runs of maintenance left.
-    ///
-    /// ```
-    /// let cache = ravulemis::sync::Cache::new(100);
-    /// cache.insert(1, 'a');
-    /// cache.run_pending_tasks();
-    /// assert_eq!(cache.entry_count(), 1);
-    /// ```
-    pub fn entry_count(&self) -> u64 {
-        let mut count = 0;
-        self.with_each(|shard| count += shard.entry_count());
-        count
-    }
-
-    /// The total weight that the last runs of maintenance left.
-    ///
-    /// ```
-    /// # use ravulemis::sync::Cache;
-    /// let cache = Cache::builder().weigher(|_, text: &String| text.len() as u32).build();
-    /// cache.insert(1, "four".to_string());
-    /// cache.run_pending_tasks();
-    /// assert_eq!(cache.weighted_size(), 4);
-    /// ```
-    pub fn weighted_size(&self) -> u64 {
-        let mut weight: u64 = 0;
-        self.with_each(|shard| weight = weight.saturating_add(shard.weighted_size()));
-        weight
     }
 
     /// What the cache has counted.

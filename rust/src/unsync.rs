@@ -29,7 +29,8 @@ pub type PredicateId = String;
 
 /// A bounded cache with one owner. It is `Send` if keys, values and the hasher are.
 ///
-/// The listener is called at the end of the call by which values left, in the order in which they left.
+/// The listener is called in the order in which values left, at the end of the call by which they did or between two
+/// steps of it: before a maker or a closure, and between two runs of `run_pending_tasks`.
 ///
 /// # Panics of the caller's own code
 /// A panic of `Eq`, `Hash`, the weigher, the expiry, a predicate or `Clone` in a look-up, a maker of `get_with`, the
@@ -54,10 +55,15 @@ struct Call<'a, K: 'static, V> {
 impl<K, V> Call<'_, K, V> {
     #[cold]
     fn settle(&self) {
-        let left = self.shard.take_left();
-        if let (Some(left), Some(notices)) = (left, self.notices) {
-            notices.put(left);
-            notices.deliver();
+        let Some(left) = self.shard.take_left() else {
+            return;
+        };
+        match self.notices {
+            Some(notices) => {
+                notices.put(left);
+                notices.deliver();
+            }
+            None => left.drop_each(),
         }
     }
 }
@@ -131,7 +137,8 @@ impl<K: Eq + Hash + Sync + 'static, V: Clone + 'static> CacheBuilder<K, V> {
 
     setters!("unsync", "mut cache");
 
-    /// Is notified of each value that leaves, with key and cause, at the end of the call. By default nobody is.
+    /// Is notified of each value that leaves, with key and cause, at the end of the call or between two steps of it. By
+    /// default nobody is.
     ///
     /// ```
     /// # use ravulemis::unsync::Cache;
@@ -538,11 +545,7 @@ impl<K: Eq + Hash + Sync + 'static, V: Clone + 'static, S: BuildHasher> Cache<K,
     /// assert_eq!(cache.entry_count(), 1);
     /// ```
     pub fn entry_count(&self) -> u64 {
-        if self.shard.is_broken() {
-            0
-        } else {
-            self.shard.entry_count()
-        }
+        self.shard.entry_count()
     }
 
     /// The total weight that the last run of maintenance left.
@@ -555,11 +558,7 @@ impl<K: Eq + Hash + Sync + 'static, V: Clone + 'static, S: BuildHasher> Cache<K,
     /// assert_eq!(cache.weighted_size(), 4);
     /// ```
     pub fn weighted_size(&self) -> u64 {
-        if self.shard.is_broken() {
-            0
-        } else {
-            self.shard.weighted_size()
-        }
+        self.shard.weighted_size()
     }
 
     /// What the cache has counted.

@@ -117,21 +117,20 @@ fn an_iterator_that_is_refused_memory_leaves_nothing_out() {
 #[test]
 fn a_cache_that_a_panic_emptied_asks_for_no_initial_room() {
     let _alone = alone();
-    let weigher = |_: &u32, value: &u32| {
-        assert_ne!(*value, 13, "a weigher that panics");
-        1
-    };
-    let cache = Cache::<u32, _>::builder()
+    let cache = Cache::<u32, u32>::builder()
         .shards(1)
         .initial_capacity(100_000)
-        .weigher(weigher)
+        .support_invalidation_closures()
         .build();
-    assert!(catch_unwind(AssertUnwindSafe(|| cache.insert(1, 13))).is_err());
+    cache.insert(1, 1);
+    let predicate = |_: &u32, _: &u32| panic!("a predicate that panics");
+    cache.invalidate_entries_if(predicate).unwrap();
+    assert!(catch_unwind(AssertUnwindSafe(|| cache.run_pending_tasks())).is_err());
     LIMIT.store(1 << 16, Ordering::Relaxed);
     let found = catch_unwind(AssertUnwindSafe(|| {
         cache.insert(2, 2);
-        cache.get(&2)
+        (cache.get(&1), cache.get(&2))
     }));
     LIMIT.store(usize::MAX, Ordering::Relaxed);
-    assert_eq!(found.ok(), Some(Some(2)));
+    assert_eq!(found.ok(), Some((None, Some(2))));
 }

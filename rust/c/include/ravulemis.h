@@ -103,8 +103,8 @@ typedef struct ravulemis_settings {
   /* One of `enum ravulemis_weigher`. */
   int32_t weigher;
   /* The number of shards, rounded up to a power of two, at most 65536, and no more than the capacity; 0 lets the
-     library choose. Each has its share of the capacity: an entry that weighs more than a share is not kept. Each takes
-     about 11 KB, also empty. */
+     library choose. Each has its share of the capacity: an entry that weighs more than a share is not kept. Each asks
+     the allocator for about 30 KB, also empty, of which about 11 KB are touched at first. */
   uint32_t shards;
   /* The number of entries that room is made for at once, at most 2^24. */
   uint64_t initial_capacity;

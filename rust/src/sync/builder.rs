@@ -116,7 +116,8 @@ where
 
     /// The number of shards, rounded up to a power of two, from 1 to 65,536, and at most the capacity. Each has its
     /// share of the capacity, so an entry that weighs more than a share is not kept, and a shard whose keys come often
-    /// evicts before the whole is full. Each takes about 11 KB, also empty.
+    /// evicts before the whole is full. Each asks the allocator for about 30 KB, also empty, of which about 11 KB are
+    /// touched at first.
     ///
     /// By default a cache with a weigher has one shard; another has the greatest power of two that leaves each at least
     /// 1,024 entries, at most 64, and 64 without a capacity.

@@ -109,6 +109,13 @@ impl<'a, K: Eq + Hash, V: Clone> Calls<'a, K, V> {
         call(&mut held.shard)
     }
 
+    /// Drops what left by them, unless a listener is to be notified of it: that waits for their end.
+    pub fn drop_left(&mut self) {
+        if self.place.notices.is_none() && self.rest.is_some() {
+            self.finish();
+        }
+    }
+
     // Takes over what left. The lock of the shard is held, so that notices wait in the order in which values left.
     #[cold]
     fn take_rest(&mut self, shard: &mut Shard<K, V>) {
@@ -133,7 +140,9 @@ impl<'a, K: Eq + Hash, V: Clone> Calls<'a, K, V> {
         if rest.is_telling {
             self.places.tell(self.place.index);
         }
-        drop(rest.left);
+        if let Some(left) = rest.left {
+            left.drop_each();
+        }
         // A second panic, in that shard, would end the process.
         if rest.is_visiting && !thread::panicking() {
             self.places.visit_next();

@@ -114,6 +114,8 @@ where
         let mut calls = self.0.places.calls(place);
         place.makers.alone(hash, Arc::clone(&key), || {
             let there = calls.make(|shard| shard.get_entry(hash, |kept| *kept == *key));
+            // The closure may wait for what that frees. A listener may ask for the key, so it waits for the end.
+            calls.drop_left();
             let there = there.map(|(key, value)| Entry::found(key, value));
             let op = decide(there.clone())?;
             Ok(computed(Arc::clone(&key), op, there, |value| match value {
@@ -254,7 +256,8 @@ macro_rules! calls {
         }
 
         /// Puts the value that the closure makes of the entry, or of `None` if there is none. No other call of this
-        /// kind for the key is made meanwhile. The closure may call the cache.
+        /// kind for the key is made meanwhile. The closure may call the cache; [`Cache`] says what it must not wait
+        /// for.
         ///
         /// # Panics
         /// If the closure panics, or makes a call of this kind for its own key.
@@ -273,7 +276,8 @@ macro_rules! calls {
         }
 
         /// Puts a value, removes the entry or leaves it, as the closure answers of what is there. No other call of this
-        /// kind for the key is made meanwhile. The closure may call the cache.
+        /// kind for the key is made meanwhile. The closure may call the cache; [`Cache`] says what it must not wait
+        /// for.
         ///
         /// # Panics
         /// If the closure panics, or makes a call of this kind for its own key.

@@ -142,7 +142,8 @@ where
     ///
     /// # Panics
     /// If the maker panics, or asks for its own key by a call of this kind. It may call the cache otherwise, but two
-    /// makers must not wait for each other.
+    /// makers must not wait for each other, nor one for another thread that calls the cache, if the listener may ask
+    /// for its key.
     ///
     /// ```
     /// let cache = ravulemis::sync::Cache::new(100);

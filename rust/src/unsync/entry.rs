@@ -97,15 +97,14 @@ macro_rules! calls {
             mut replace_if: impl FnMut(&V) -> bool,
         ) -> Entry<K, V> {
             let Self { cache, hash, key } = self;
-            cache.with(|shard| {
-                let (key, there) = Self::look(shard, hash, key);
-                let is_replaced = match there {
-                    Some(value) if !replace_if(&value) => return Entry::found(key, value),
-                    there => there.is_some(),
-                };
-                let Ok(entry) = shard.put_made(hash, key, is_replaced, || Ok::<_, Infallible>(init()));
-                entry
-            })
+            let (key, there) = cache.with(|shard| Self::look(shard, hash, key));
+            let is_replaced = match there {
+                Some(value) if !replace_if(&value) => return Entry::found(key, value),
+                there => there.is_some(),
+            };
+            let make = || Ok::<_, Infallible>(init());
+            let Ok(entry) = cache.with(|shard| shard.put_made(hash, key, is_replaced, make));
+            entry
         }
 
         /// The key's entry; if there is none, a value is made and put there, or `None` is answered if the maker gives
@@ -137,10 +136,11 @@ macro_rules! calls {
             F: FnOnce() -> Result<V, E>,
         {
             let Self { cache, hash, key } = self;
-            cache.with(|shard| match Self::look(shard, hash, key) {
+            // What left by the look-up is dropped or told before the maker is called, which may wait for that.
+            match cache.with(|shard| Self::look(shard, hash, key)) {
                 (key, Some(value)) => Ok(Entry::found(key, value)),
-                (key, None) => shard.put_made(hash, key, false, init),
-            })
+                (key, None) => cache.with(|shard| shard.put_made(hash, key, false, init)),
+            }
         }
 
         /// Puts the value that the closure makes of the entry, or of `None` if there is none.

@@ -2,8 +2,10 @@
 
 use crate::waits::ends;
 use ravulemis::RemovalCause;
+use ravulemis::ops::compute::Op;
 use ravulemis::policy::EvictionPolicy;
 use ravulemis::sync::Cache;
+use std::cell::Cell;
 use std::collections::HashMap;
 use std::panic::{AssertUnwindSafe, RefUnwindSafe, UnwindSafe, catch_unwind};
 use std::sync::atomic::{AtomicU32, Ordering};
@@ -291,6 +293,61 @@ fn what_leaves_is_dropped_without_a_lock() {
     );
     assert!(ends(|| cache.run_pending_tasks()), "all that exceed the capacity");
     assert_eq!((cache.entry_count(), cache.stats().explicit), (10, 2));
+}
+
+#[test]
+fn what_leaves_by_the_look_up_of_an_entry_is_dropped_before_the_closure_is_called() {
+    type Call = fn(&Cache<u32, Arc<u32>>, &dyn Fn());
+    let calls: [(&str, Call); 5] = [
+        ("get_with", |it, look| {
+            let make = || {
+                look();
+                Arc::new(2)
+            };
+            it.get_with(2, make);
+        }),
+        ("or_insert_with_if", |it, look| {
+            let make = || {
+                look();
+                Arc::new(2)
+            };
+            it.entry(2).or_insert_with_if(make, |_| true);
+        }),
+        ("and_upsert_with", |it, look| {
+            let make = |_| {
+                look();
+                Arc::new(2)
+            };
+            it.entry(2).and_upsert_with(make);
+        }),
+        ("and_compute_with", |it, look| {
+            let decide = |_| {
+                look();
+                Op::Nop
+            };
+            it.entry_by_ref(&2).and_compute_with(decide);
+        }),
+        ("and_try_compute_with", |it, look| {
+            let decide = |_| {
+                look();
+                Err("no")
+            };
+            assert!(it.entry(2).and_try_compute_with(decide).is_err());
+        }),
+    ];
+    let calls = calls.map(|(name, call)| {
+        let (cache, value) = (Cache::<u32, _>::builder().shards(1).build(), Arc::new(1));
+        cache.insert(1, Arc::clone(&value));
+        cache.invalidate_all();
+        (name, call, cache, value)
+    });
+    // After this a run is due.
+    thread::sleep(Duration::from_millis(310));
+    for (name, call, cache, value) in calls {
+        let owners = Cell::new(0);
+        call(&cache, &|| owners.set(Arc::strong_count(&value)));
+        assert_eq!(owners.get(), 1, "{name}");
+    }
 }
 
 #[test]

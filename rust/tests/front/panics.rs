@@ -1,6 +1,8 @@
 //! What follows where the caller's own code panics.
 
+use ravulemis::ops::compute::Op;
 use ravulemis::{Expiry, sync, unsync};
+use std::cell::Cell;
 use std::hash::{BuildHasherDefault, DefaultHasher, Hash, Hasher};
 use std::panic::{AssertUnwindSafe, catch_unwind};
 use std::sync::Arc;
@@ -52,9 +54,11 @@ fn a_clone_of_what_is_taken_out_that_panics_empties_the_shard() {
     for key in 0..50 {
         cache.insert(key, Fragile(key, Arc::clone(&breaks)));
     }
+    cache.run_pending_tasks();
     breaks.store(true, Ordering::SeqCst);
     assert!(panics(|| cache.invalidate(&1)));
     breaks.store(false, Ordering::SeqCst);
+    let counted = cache.entry_count();
     let left = (0..50)
         .filter(|key| cache.get(key).is_some_and(|it| it.0 == *key))
         .count();
@@ -62,6 +66,7 @@ fn a_clone_of_what_is_taken_out_that_panics_empties_the_shard() {
         10 < left && left < 40,
         "one of two shards was emptied, {left} entries are left"
     );
+    assert_eq!(counted, left as u64);
     assert!(cache.get(&1).is_none());
     cache.insert(1, Fragile(1, breaks));
     cache.run_pending_tasks();
@@ -203,13 +208,13 @@ fn a_predicate_that_panics_in_two_shards_ends_no_process() {
     assert_eq!((cache.get(&0), cache.get(&1)), (None, Some('c')));
 }
 
-/// A value whose drop panics if it is 13.
-#[derive(Clone)]
+/// A key or value whose drop panics if it ends in 13.
+#[derive(Clone, PartialEq, Eq, Hash)]
 struct Brittle(u32);
 
 impl Drop for Brittle {
     fn drop(&mut self) {
-        assert!(self.0 != 13, "a drop that panics");
+        assert!(self.0 % 100 != 13, "a drop that panics");
     }
 }
 
@@ -221,6 +226,66 @@ fn a_drop_that_panics_changes_nothing() {
     assert!(panics(|| cache.insert(1, Brittle(1))));
     assert!(cache.get(&1).is_some_and(|it| it.0 == 1));
     assert!(cache.get(&2).is_some());
+}
+
+/// Lets keys and values leave by one call, some of which panic when they are dropped. All are dropped, and the cache
+/// goes on.
+macro_rules! drops {
+    ($cache:expr) => {{
+        let (mut cache, held) = ($cache, Arc::new(()));
+        for key in [1, 13, 2, 113, 213] {
+            cache.insert(Brittle(key), (Brittle(key), Arc::clone(&held)));
+        }
+        cache.invalidate_all();
+        assert!(panics(|| cache.run_pending_tasks()));
+        assert_eq!((cache.entry_count(), Arc::strong_count(&held)), (0, 1));
+        cache.insert(Brittle(1), (Brittle(1), held));
+        assert!(cache.get(&Brittle(1)).is_some());
+    }};
+}
+
+#[test]
+#[allow(unused_mut)]
+fn drops_of_one_call_that_panic_end_no_process() {
+    drops!(unsync::Cache::<Brittle, _>::builder().build());
+    drops!(sync::Cache::<Brittle, _>::builder().shards(1).build());
+}
+
+#[test]
+fn a_drop_that_panics_during_another_panic_ends_no_process() {
+    let cache = sync::Cache::<u32, _>::builder()
+        .shards(1)
+        .support_invalidation_closures()
+        .build();
+    cache.insert(0, Brittle(0));
+    cache.run_pending_tasks();
+    let predicate = |_: &u32, _: &Brittle| panic!("a predicate that panics");
+    cache.invalidate_entries_if(predicate).unwrap();
+    cache.insert(1, Brittle(13));
+    // Within 64 of these a run asks the predicate, after one more value has left.
+    let text = || {
+        let panic = catch_unwind(AssertUnwindSafe(|| cache.insert(1, Brittle(13)))).unwrap_err();
+        *panic.downcast_ref::<&str>().unwrap()
+    };
+    assert!((0..100).any(|_| text() == "a predicate that panics"));
+    // That empties the shard, so the last value is dropped.
+    assert!(panics(|| cache.insert(1, Brittle(1))));
+    cache.insert(1, Brittle(1));
+    assert_eq!((cache.contains_key(&0), cache.contains_key(&1)), (false, true));
+}
+
+#[test]
+fn drops_that_panic_after_the_listener_has_end_no_process() {
+    let listener = |_, _, _| panic!("a listener that panics");
+    let mut cache = unsync::Cache::<Brittle, _>::builder()
+        .eviction_listener(listener)
+        .build();
+    for key in [1, 13] {
+        cache.insert(Brittle(key), Brittle(key));
+        cache.invalidate_all();
+        cache.run_pending_tasks();
+        assert_eq!(cache.entry_count(), 0);
+    }
 }
 
 /// A key whose comparison panics if one of the two is 13.
@@ -261,6 +326,66 @@ fn a_comparison_or_hash_that_panics_changes_nothing() {
     }
     cache.run_pending_tasks();
     assert_eq!(cache.entry_count(), 10);
+}
+
+thread_local! {
+    // How many comparisons of `Touchy` do not panic.
+    static CALM: Cell<u32> = const { Cell::new(u32::MAX) };
+}
+
+/// A key of which one comparison panics.
+#[derive(Clone, Copy, Debug, Eq)]
+struct Touchy(u32);
+
+impl PartialEq for Touchy {
+    fn eq(&self, other: &Self) -> bool {
+        let calm = CALM.get();
+        CALM.set(calm.wrapping_sub(1));
+        assert!(calm > 0, "a comparison that panics");
+        self.0 == other.0
+    }
+}
+
+impl Hash for Touchy {
+    fn hash<H: Hasher>(&self, state: &mut H) {
+        state.write_u32(self.0);
+    }
+}
+
+/// Makes calls for a key that is there, until one compares it twice: before and after a run. The second time panics.
+macro_rules! compares {
+    ($cache:expr, $($call:expr),+) => {$({
+        let mut cache = $cache;
+        for key in 0..100 {
+            cache.insert(Touchy(key), key);
+        }
+        let mut breaks = || {
+            CALM.set(1);
+            let is_broken = panics(|| $call(&mut cache, Touchy(1)));
+            CALM.set(u32::MAX);
+            is_broken
+        };
+        assert!((0..1000).any(|_| breaks()), stringify!($call));
+        assert!((0..100).all(|key| cache.get(&Touchy(key)) == Some(key)), stringify!($call));
+    })+};
+}
+
+#[test]
+fn a_comparison_that_panics_after_a_run_changes_nothing() {
+    type Shared = sync::Cache<Touchy, u32>;
+    compares!(
+        Shared::builder().shards(1).build(),
+        |it: &mut Shared, key| it.get(&key),
+        |it: &mut Shared, key| it.get_with(key, || unreachable!()),
+        |it: &mut Shared, key| it.entry(key).or_insert(0),
+        |it: &mut Shared, key| it.entry(key).and_compute_with(|_| Op::Nop)
+    );
+    type Owned = unsync::Cache<Touchy, u32>;
+    compares!(
+        Owned::builder().build(),
+        |it: &mut Owned, key| it.get(&key),
+        |it: &mut Owned, key| it.entry(key).or_insert(0)
+    );
 }
 
 /// A key whose hash panics while it is told to.
@@ -328,6 +453,28 @@ fn a_maker_that_panics_changes_nothing() {
         .or_insert_with_if(|| panic!("a maker that panics"), |_| true)));
     assert_eq!((cache.get(&1), cache.get(&2)), (Some('a'), None));
     assert_eq!((cache.stats().loads, cache.stats().load_failures), (0, 2));
+}
+
+/// How many values were loaded, and how many loads failed, if a call panics.
+macro_rules! loads {
+    ($cache:expr, $value:expr) => {{
+        let mut cache = $cache;
+        assert!(panics(|| cache.get_with(1, || $value)));
+        assert!(!cache.contains_key(&1));
+        (cache.stats().loads, cache.stats().load_failures)
+    }};
+}
+
+#[test]
+#[allow(unused_mut)]
+fn a_value_that_a_panic_keeps_out_is_a_load_that_failed() {
+    let breaks = Arc::new(AtomicBool::new(true));
+    let fragile = || Fragile(1, Arc::clone(&breaks));
+    assert_eq!(loads!(sync::Cache::<u32, _>::new(100), fragile()), (0, 1));
+    assert_eq!(loads!(unsync::Cache::<u32, _>::new(100), fragile()), (0, 1));
+    let weigher = |_: &u32, _: &u32| panic!("a weigher that panics");
+    assert_eq!(loads!(sync::Cache::builder().weigher(weigher).build(), 1), (0, 1));
+    assert_eq!(loads!(unsync::Cache::builder().weigher(weigher).build(), 1), (0, 1));
 }
 
 #[test]

@@ -538,6 +538,24 @@ fn a_listener_may_compute_the_entry_that_it_is_told_of() {
 }
 
 #[test]
+fn a_listener_may_compute_the_entry_by_whose_look_up_a_value_left() {
+    static OWN: OnceLock<Cache<u32, u32>> = OnceLock::new();
+    let listener = |key: Arc<u32>, _, _| {
+        if *key == 1 {
+            let cache = OWN.get().unwrap();
+            cache.entry(2).and_upsert_with(|old| old.unwrap().into_value() + 1);
+        }
+    };
+    let cache = OWN.get_or_init(|| Cache::builder().max_capacity(10).eviction_listener(listener).build());
+    cache.insert(1, 1);
+    cache.invalidate_all();
+    // After this a run is due.
+    thread::sleep(Duration::from_millis(310));
+    assert!(ends(move || cache.entry(2).and_upsert_with(|_| 7)));
+    assert_eq!(cache.get(&2), Some(8));
+}
+
+#[test]
 fn a_listener_may_make_the_value_that_it_is_told_of() {
     static OWN: OnceLock<Cache<u32, u32>> = OnceLock::new();
     static TOLD: AtomicU32 = AtomicU32::new(0);

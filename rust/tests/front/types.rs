@@ -36,6 +36,19 @@ where
     is_sent::<unsync::RefKeyEntrySelector<'_, K, Q, V, S>>();
 }
 
+// Calls that moka has of a cache of any key, value and hasher.
+fn are_counted<K: 'static, V, S>(cache: &sync::Cache<K, V, S>) -> (u64, u64) {
+    (cache.entry_count(), cache.weighted_size())
+}
+
+#[test]
+fn a_cache_of_any_types_is_counted() {
+    let cache = sync::Cache::builder().weigher(|_: &u32, weight: &u32| *weight).build();
+    cache.insert(1, 7);
+    cache.run_pending_tasks();
+    assert_eq!(are_counted(&cache), (1, 7));
+}
+
 #[test]
 fn what_threads_share_is_shared_with_all_that_calls_hand_out() {
     are_shared_with_their_parts::<String, str, Vec<u8>, RandomState>();

@@ -285,3 +285,45 @@ fn a_panic_within_a_call_keeps_no_notice_back() {
     assert!(replaced < 100);
     assert_eq!(told.try_iter().collect::<Vec<_>>(), (0..replaced).collect::<Vec<_>>());
 }
+
+#[test]
+fn what_leaves_by_a_look_up_has_left_before_the_maker_is_called() {
+    type Call = fn(&mut Cache<u32, Arc<u32>>, &dyn Fn() -> Arc<u32>);
+    let calls: [(&str, Call); 6] = [
+        ("get_with", |it, make| _ = it.get_with(2, make)),
+        ("or_insert_with", |it, make| _ = it.entry(2).or_insert_with(make)),
+        ("or_insert_with_if", |it, make| {
+            _ = it.entry_by_ref(&2).or_insert_with_if(make, |_| true);
+        }),
+        ("or_optionally_insert_with", |it, make| {
+            _ = it.entry(2).or_optionally_insert_with(|| Some(make()));
+        }),
+        ("or_try_insert_with", |it, make| {
+            _ = it.entry(2).or_try_insert_with(|| Ok::<_, String>(make()));
+        }),
+        ("and_upsert_with", |it, make| {
+            _ = it.entry_by_ref(&2).and_upsert_with(|_| make());
+        }),
+    ];
+    let calls = calls.map(|(name, call)| {
+        let value = Arc::new(1);
+        let with_listener = Cache::<u32, _>::builder().eviction_listener(|_, _, _| ()).build();
+        let caches = [Cache::builder().build(), with_listener].map(|mut cache| {
+            cache.insert(1, Arc::clone(&value));
+            cache.invalidate_all();
+            cache
+        });
+        (name, call, caches, value)
+    });
+    // After this a run is due.
+    sleep(Duration::from_millis(310));
+    for (name, call, caches, value) in calls {
+        for (before, mut cache) in [2, 1].into_iter().zip(caches) {
+            let make = || {
+                assert_eq!(Arc::strong_count(&value), before, "{name}");
+                Arc::new(2)
+            };
+            call(&mut cache, &make);
+        }
+    }
+}
