@@ -73,7 +73,7 @@ AddsOnly {K} {V} items s t = (n : ℕ) (q : Record K V) → get t.records n ≡ 
     ((r : Record K V) × (get s.records n ≡ Some r) × ((g : ℕ) × (q ≡ record r { applied = g })))
     ⊎ ((item : Restored K V) × Contains items item × IsOfItem item q)
 
--- ---- if nothing but time takes a record out
+-- ---- when nothing but time takes a record out
 
 -- each member has its record, with the weight that is counted for it, and each upsert that waits has that of its record
 pub record AreAsWeighed {K V X P W : Type 0} (s : State K V X P W) : Type 0 where

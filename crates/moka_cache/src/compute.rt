@@ -1,5 +1,5 @@
 //! The entry call that computes what is to be done from the value that is there. moka: `ops::compute`.
-ghost use Rattle.std.specs.Prelude.{◌≡◌, Option, Some, None, Result, Ok, Err, IfErr, option_copied, option_map};
+ghost use Rattle.std.specs.Prelude.{◌≡◌, Option, None, Result, IfErr, option_copied, option_map};
 ghost use Rattle.moka_records.specs.Records.{record_of_key};
 ghost use Rattle.moka_types.specs.declared.error.InsertRefused.{InsertRefused};
 ghost use Rattle.moka_types.specs.declared.error.OutOfMemory.{OutOfMemory};
@@ -15,7 +15,6 @@ use moka_calls::answers::found;
 pub use moka_calls::compute::{CompResult, ComputeRefused, Op};
 use moka_calls::error::NotTold;
 use moka_parts::closures::{PredicateFn, Weigher};
-use moka_parts::error::{InsertRefused, OutOfMemory};
 use moka_parts::housekeeper::Clock;
 use moka_parts::notification::Listener;
 use moka_parts::policy::{Expiry, Instant};

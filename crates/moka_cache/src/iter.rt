@@ -1,7 +1,6 @@
 //! The entries that are visible. moka: `sync::iter`.
 ghost use Rattle.std.specs.Prelude.{IfOk};
 ghost use Rattle.std.specs.Vec.Iter.{into_iter_items};
-ghost use Rattle.moka_records.specs.declared.instant.Instant.{Instant};
 ghost use Rattle.moka_cache.specs.Visible.{ClonesAreSameKeys, ListsVisible, LooksUp, LooksUpClones};
 
 use crate::cache::Cache;

@@ -1,4 +1,4 @@
-//! Worked saves of a cache, put back where nothing is left of it.
+//! Worked saves of a cache, put back into one of which nothing is left.
 use crate::config::{NOW, Tested};
 use moka_engine::{FixedClock, Instant, RestoreError, RestoreRefused, Restored, SnapshotEntry};
 use std::alloc::Global;

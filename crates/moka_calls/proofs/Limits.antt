@@ -150,8 +150,8 @@ calls_set_none K V P E key hash now = record {
   get_with = get_with_sets_none key hash now;
   optionally_get_with = if_made_sets_none key hash now;
   try_get_with = try_get_with_sets_none key hash now;
-  upsert_with = upsert_sets_none key hash now;
-  compute_with = compute_sets_none key hash now;
+  and_upsert_with = upsert_sets_none key hash now;
+  and_compute_with = compute_sets_none key hash now;
 }
 
 module _ {K V X L P W C : Type 0} (m : Meaning K V X L P W C (Unit {0})) where

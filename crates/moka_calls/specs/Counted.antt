@@ -87,14 +87,14 @@ pub record CountsCalls (K V P E : Type 0) (is_clone : V → V → Type 0) : Type
   pub set_max_capacity : (s : Stats) (capacity : Option ℕ) (answer : Result (Unit {0}) CapacityError) →
       Counts {K = K} {V = V} {P = P} (Just (call.SetCapacity capacity) (reply.SetCapacity answer)) 0 s s
   -- a miss after which a value is put is no load
-  pub get_or_insert : (s : Stats) (key : K) (hash : ℕ) (now : Instant) (put : Option V)
+  pub or_insert : (s : Stats) (key : K) (hash : ℕ) (now : Instant) (put : Option V)
       (own : Result V (Option (InsertRefused K V))) →
       Counts {P = P} (GetsOrInserts key hash now put own) 0 s (after_get_or_insert put own s)
   -- a function that computes a value is no maker
-  pub upsert_with : (s : Stats) (key : K) (hash : ℕ) (now : Instant) (own got : Result (Option V) OutOfMemory)
+  pub and_upsert_with : (s : Stats) (key : K) (hash : ℕ) (now : Instant) (own got : Result (Option V) OutOfMemory)
       (put : Option (V × Result V (InsertRefused K V))) → IsCopiedAnswer is_clone own got →
       Counts {P = P} (Upserts key hash now own put) 0 s (after_look_up got s)
-  pub compute_with : (s : Stats) (key : K) (hash : ℕ) (now : Instant) (own got : Result (Option V) OutOfMemory)
+  pub and_compute_with : (s : Stats) (key : K) (hash : ℕ) (now : Instant) (own got : Result (Option V) OutOfMemory)
       (done : Option (Computed K V)) → IsCopiedAnswer is_clone own got →
       Counts {P = P} (Computes key hash now own done) 0 s (after_look_up got s)
   pub get_many : (s : Stats) (hash_of : K → ℕ) (now : Instant) (keys : List K)

@@ -55,9 +55,9 @@ pub record CallsSetNoCapacity (K V P E : Type 0) (key : K) (hash : ℕ) (now : I
       SetNone {P = P} (GetsOrInsertsIfMade key hash now made own)
   pub try_get_with : (made : Option (Result V E)) (own : Result (Result V E) (Option (InsertRefused K V))) →
       SetNone {P = P} (GetsOrInsertsIfNoError key hash now made own)
-  pub upsert_with : (own : Result (Option V) OutOfMemory) (put : Option (V × Result V (InsertRefused K V))) →
+  pub and_upsert_with : (own : Result (Option V) OutOfMemory) (put : Option (V × Result V (InsertRefused K V))) →
       SetNone {P = P} (Upserts key hash now own put)
-  pub compute_with : (own : Result (Option V) OutOfMemory) (done : Option (Computed K V)) →
+  pub and_compute_with : (own : Result (Option V) OutOfMemory) (done : Option (Computed K V)) →
       SetNone {P = P} (Computes key hash now own done)
 
 -- nor does what each call for many stands for

@@ -23,7 +23,7 @@ module _ {C : Type 0} (reads : C → Instant → C → Type 0) where
   Starts None c started d = (started ≡ None) × (d ≡ c)
   Starts (Some limit) c started d = (r : Instant) × (started ≡ Some r) × reads c r d
 
-  -- if it was read before, it is read again, and is late if the limit has passed since then
+  -- if it was read before, it is read again, and it is late if the limit has passed since then
   abbrev pub Checks : Option Instant → Option ℕ → C → Bool → C → Type 0
   Checks None limit c late d = (late ≡ false) × (d ≡ c)
   Checks (Some first) None c late d = (late ≡ false) × (d ≡ c)

@@ -354,7 +354,7 @@ fn move_to_back<K: Eq + Hash, V, S: BuildHasher>(store: &mut Store<K, V, S>, han
     }
 }
 
-// The member of this number, if there is one, comes to the back of the access list alone. Its timer is set again where
+// The member of this number, if there is one, comes to the back of the access list alone. Its timer is set again if
 // the read renewed its expiry.
 fn move_after_read<K: Eq + Hash, V, S: BuildHasher>(
     store: &mut Store<K, V, S>,

@@ -40,7 +40,7 @@ struct Stretch {
 }
 
 /// Goes round the order of writing from its cursor, once at most, until it has looked at `batch` settled members, and
-/// removes those that a registered predicate covers. The cursor comes to stand behind the last that was passed. Where
+/// removes those that a registered predicate covers. The cursor comes to stand behind the last that was passed. If
 /// the end of the order was reached, predicates that cover no record leave. Whether more is left: a member was looked
 /// at, and a predicate is left.
 pub(crate) fn scan<K: Eq + Hash + Drop, V: Drop, S: BuildHasher, L: Listener<K, V>, P: Drop>(

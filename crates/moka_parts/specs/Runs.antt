@@ -187,7 +187,7 @@ module _ {K V X P W : Type 0} (says : P → K → V → Bool → Type 0) (read :
   abbrev pub PromisedRun : State K V X P W → Terms → Course → List (Notice K V) → State K V X P W → Type 0
   PromisedRun s terms course notices t = RunsWith says EndsWell (HasBounds says read) s terms course notices t
 
-  -- the same, if a whole run also removes what is past its time
+  -- the same, and a whole run also removes what is past its time
   abbrev pub OrderlyRun : State K V X P W → Terms → Course → List (Notice K V) → State K V X P W → Type 0
   OrderlyRun s terms course notices t = RunsWith says (λ s terms course t. EndsWell s terms course t
       × AgesOut s terms course t) (HasBounds says read) s terms course notices t

@@ -20,7 +20,7 @@ use Rattle.moka_script.specs.Calls.{CallText, call_text, told_call, call_of}
 abbrev pub LineText : Type 0
 LineText = Line (List ℕ) CallText
 
--- the same, if a value or a reading is still a part of the line
+-- the same, of a line of which a value or a reading is still a part
 abbrev pub line_text : Line Readings LineCall → LineText
 line_text line.Nothing = line.Nothing
 line_text (line.Setting setting) = line.Setting setting

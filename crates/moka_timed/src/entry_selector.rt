@@ -1,7 +1,6 @@
 //! Entry calls of the cache that owns its clock, at the moment that it reads at the start of each.
-ghost use Rattle.std.specs.Prelude.{◌≡◌, false, true, IfErr, IsOk, Option, Result, option_copied};
+ghost use Rattle.std.specs.Prelude.{◌≡◌, false, true, IfErr, IsOk, Option, option_copied};
 ghost use Rattle.moka_parts.specs.Calls.{ContainsStep};
-ghost use Rattle.moka_types.specs.declared.error.InsertRefused.{InsertRefused};
 ghost use Rattle.moka_calls.specs.Computing.{AndUpserts, AndComputes};
 ghost use Rattle.moka_calls.specs.Entries.{OrInserts, OrInsertsMade, OrInsertsIfMade, OrInsertsIfNoError};
 ghost use Rattle.moka_calls.specs.Given.{Sees};

@@ -1,6 +1,6 @@
 -- Visits of a page: what a count comes to, and what is taken out.
 use Rattle.std.proofs.Common.{◌≡◌, ◌==◌, ◌≤◌, refl, ℕ, Bool, true, false, true≢false, List, [], ◌∷◌, Option, Some, None, Result, Ok, Err, option_map, unwrap_or, ap, sym, subst, ◌∙◌, inl, inr, arith, nat_le, if◌then◌else◌}
-use Rattle.std.specs.Prelude.{IfOk, IfErr, IfSome, IsErr, IsErrAnd}
+use Rattle.std.specs.Prelude.{IfOk, IfErr, IfSome, IsErr, IsErrAnd, ⊤}
 use Rattle.std.proofs.lemmas.Option.{none-some, same_Some}
 use Rattle.moka_engine.specs.parts.InsertRefused.{InsertRefused}
 use Rattle.moka_engine.specs.parts.Instant.{Instant}
@@ -28,7 +28,7 @@ use Rattle.moka_cache.specs.Counters.{one_more}
 use Rattle.moka_cache.specs.Given.{ComesBack, Sees}
 use Rattle.moka_cache.specs.Synchronous.{Makes, GetsValue, InsertsMade, RemovesEntry}
 use Rattle.moka_uses.specs.Made.{LooksUp}
-use Rattle.moka_uses.specs.Visits.{HasLeft, IsFull, PutsCount, RefusesCount, RefusesTake, RemovesCount, count_at, meaning, next_count, op_for, value_at}
+use Rattle.moka_uses.specs.Visits.{HasLeft, IsFull, PutsCount, RefusesCount, RemovesCount, count_at, meaning, next_count, op_for, value_at}
 
 -- predicates that say no to all cover nothing
 none_covers : {P : Type 0} (r : Record ℕ ℕ) (ps : List (Registered P)) → SomeCovers (λ _ _ _ answer. answer ≡ false) ps r → ⊥
@@ -71,10 +71,10 @@ module _ {S X L P W C : Type 0} (m : Meaning ℕ ℕ X L P W C (Unit {0})) (page
     pub removed : (count : ℕ) → IsFull old.state page now.0 limit count → RemovesCount m page now old clock new clock_after count taken
     pub looked_up : ((count : ℕ) → IsFull old.state page now.0 limit count → ⊥) → LooksUp m page now old clock new clock_after (Ok (count_at old.state page now.0))
 
-  -- and what is promised of a call that takes it out
+  -- and what is promised if a call that takes it out is not refused
   abbrev pub IsTakenOut : ℕ → Result (CompResult ℕ ℕ) (ComputeRefused ℕ ℕ) → Type 0
   IsTakenOut limit (Ok answer) = IsTaken limit (taken_of answer)
-  IsTakenOut limit (Err refused) = RefusesTake m page now old clock new clock_after limit refused
+  IsTakenOut limit (Err refused) = ⊤
 
 -- what is to be done tells whether the count has reached the limit
 abbrev Tells : ℕ → Option ℕ → Op ℕ → Type 0
@@ -181,21 +181,12 @@ module _ {S X L P W C : Type 0} (reads : C → Instant → C → Type 0) (page h
           full_of None count same full = tt
           full_of (Some t) count same full = subst (IsFull old.state page now.0 limit) same full
 
-      -- a page that was removed, and of which nobody could be told
-      untold : (seen : Option ℕ) → got ≡ Ok seen → Answers seen Remove → (value : ℕ) (error : OutOfMemory) → Makes m (Computes page hash now (Ok seen) (Some (Takes (Some (value, Err error))))) old clock new clock_after
-          → HasLeft new.state page × IfOk got (λ seen. IfSome seen (λ b. b ≡ value)) → (k : ℕ) → RefusesTake m page now old clock new clock_after limit (NotTold k (record { error = error; value = value }))
-      untold seen is answered value error makes out k =
-          let (count, seen_is, reached) = told seen Remove answered in
-          let same : count ≡ value = subst (λ g. IfOk g (λ seen. IfSome seen (λ b. b ≡ value))) (is ∙ ap Ok seen_is) out.1 in
-          let full : IsFull old.state page now.0 limit value = subst (IsFull old.state page now.0 limit) same (sym (found seen is) ∙ seen_is, reached) in
-          (full, out.0, (hash, subst (λ o. Makes m (InTurn (GetsValue page hash now (Ok o)) (RemovesEntry page hash now (Some (value, Err error)))) old clock new clock_after) (found seen is ∙ full.0) makes))
-
       -- what a removal answers
       takes : (seen : Option ℕ) → got ≡ Ok seen → Answers seen Remove → (taken : Option (ℕ × Result (Unit {0}) OutOfMemory)) (result : Result (CompResult ℕ ℕ) (ComputeRefused ℕ ℕ)) → HandsOutTaken is_key_clone (λ a b. b ≡ a) page taken result
           → Makes m (Computes page hash now (Ok seen) (Some (Takes taken))) old clock new clock_after → HasLeft new.state page × IfSome taken (λ t. IfOk got (λ seen. IfSome seen (λ b. b ≡ t.0))) → TakenOut result
       takes seen is answered None result handed makes out = nothing_left result handed (removed seen is answered None makes out)
       takes seen is answered (Some (value, Ok done)) (Ok (Removed e)) handed makes out = subst (λ v. Taken (Some v)) (sym handed.0) (removed seen is answered (Some (value, Ok done)) makes out)
-      takes seen is answered (Some (value, Err error)) (Err (NotTold k r)) handed makes out = subst (λ r. RefusesTake m page now old clock new clock_after limit (NotTold k r)) (sym handed.1) (untold seen is answered value error makes out k)
+      takes seen is answered (Some (value, Err error)) (Err (NotTold k r)) handed makes out = tt
       takes seen is answered taken result handed makes out = absurd handed
 
       -- a page that is taken out, or not, or a call that is refused
@@ -210,6 +201,6 @@ module _ {S X L P W C : Type 0} (reads : C → Instant → C → Type 0) (page h
           go (Ok seen) is (Some (Puts value put)) answers result handed makes out = absurd (told seen (Put value) answers)
           go (Ok seen) is (Some (Takes taken)) answers result handed makes out = takes seen is answers taken result handed.1 makes (out taken refl)
           go (Ok seen) is None answers result handed makes out = absurd answers
-          go (Err e) is None answers (Err (compute_refused.Lookup k)) handed makes out = (e, (hash, makes))
+          go (Err e) is None answers (Err (compute_refused.Lookup k)) handed makes out = tt
           go (Err e) is None answers result handed makes out = absurd handed
           go (Err e) is (Some done) answers result handed makes out = absurd answers

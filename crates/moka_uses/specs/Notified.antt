@@ -1,4 +1,4 @@
--- Two values under one key, where a listener counts what leaves.
+-- Two values under one key, in a cache with a listener that counts what leaves.
 use Rattle.std.specs.Prelude.{◌≡◌, ◌==◌, ◌+◌, ℕ, min, Some, Ok}
 use Rattle.moka_engine.specs.parts.Call.TheVariants as call
 use Rattle.moka_engine.specs.parts.Instant.{Instant}

@@ -7,8 +7,6 @@ use Rattle.moka_engine.specs.Records.{record_of_key}
 use Rattle.moka_engine.specs.Runs.{Engine}
 use Rattle.moka_engine.specs.State.{State, Meaning}
 use Rattle.moka_engine.specs.Visibility.{has_lapsed}
-use Rattle.moka_cache.specs.parts.ComputeRefused.{ComputeRefused}
-use Rattle.moka_cache.specs.parts.ComputeRefused.TheVariants as compute_refused
 use Rattle.moka_cache.specs.parts.Op.{Op}
 use Rattle.moka_cache.specs.parts.Op.TheVariants.{Nop, Remove}
 use Rattle.moka_cache.specs.parts.GetWithRefused.{GetWithRefused}
@@ -71,22 +69,7 @@ module _ {S X L P W C : Type 0} (m : Meaning ℕ ℕ X L P W C (Unit {0})) (page
       × Makes m (InTurn (GetsValue page hash now (Ok (count_at old.state page now.0)))
       (InsertsMade page hash now (next_count old.state page now.0) (Err refused))) old clock new clock_after
 
-  -- the look-up of the page was refused; or it found a count that has reached the limit, and the removal that handed it
-  -- out could not be told
-  abbrev pub RefusesTake : ℕ → ComputeRefused ℕ ℕ → Type 0
-  RefusesTake limit (compute_refused.Lookup k) = RefusesLookup
-  RefusesTake limit (compute_refused.Insert refused) = ⊥
-  RefusesTake limit (compute_refused.NotTold k refused) = IsFull old.state page now.0 limit refused.value
-      × HasLeft new.state page × ((hash : ℕ) × Makes m (InTurn (GetsValue page hash now (Ok (Some refused.value)))
-      (RemovesEntry page hash now (Some (refused.value, Err refused.error)))) old clock new clock_after)
-
 -- what is to be done with a page of this count
 abbrev pub op_for : ℕ → Option ℕ → Op ℕ
 op_for limit None = Nop
 op_for limit (Some count) = if nat_le limit count then Remove else Nop
-
--- the page that comes back with a refusal
-abbrev pub page_of : ComputeRefused ℕ ℕ → ℕ
-page_of (compute_refused.Lookup page) = page
-page_of (compute_refused.Insert refused) = refused.key
-page_of (compute_refused.NotTold page refused) = page

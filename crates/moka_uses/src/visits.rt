@@ -1,12 +1,12 @@
 //! Visits, counted by page.
 ghost use Rattle.std.specs.Prelude.{◌≡◌, IfErr, IfOk, IfSome, Ok, option_copied};
 ghost use Rattle.moka_cache.specs.Given.{ComesBack};
-ghost use Rattle.moka_cache.specs.Keyed.{IsNotOfNotice, IsOfChange, IsOfInsert};
+ghost use Rattle.moka_cache.specs.Keyed.{IsOfInsert};
 ghost use Rattle.moka_uses.specs.Made.{LooksUp};
-ghost use Rattle.moka_uses.specs.Visits.{HasLeft, IsFull, PutsCount, RefusesCount, RefusesTake, RemovesCount, count_at, meaning, next_count, op_for, page_of};
+ghost use Rattle.moka_uses.specs.Visits.{HasLeft, IsFull, PutsCount, RefusesCount, RemovesCount, count_at, meaning, next_count, op_for};
 
 use moka_cache::laws::hears_themselves;
-use moka_cache::{Cache, CompResult, ComputeRefused, GetWithRefused, Op};
+use moka_cache::{Cache, CompResult, GetWithRefused, Op};
 use moka_engine::{Clock, DefaultHasher, Instant, NoExpiry, NoListener, NoPredicate, NoWeigher};
 
 /// Counts a visit of a page, and hands out how many there are now: one more than the count that is visible at the
@@ -36,31 +36,22 @@ pub fn count<C: Clock>(
 
 /// Takes out a page whose count, visible at the moment `now`, has reached a limit, and hands out the count; `None` if
 /// the run of maintenance that the look-up made had taken the page out already. A page that has not, or is not visible,
-/// is only looked up, and the answer is `None`.
-///
-/// # Errors
-/// As `OwnedKeyEntrySelector::and_compute_with`: the page comes back. Cloning numbers takes no memory, so neither the
-/// look-up nor the notice of a removal is refused.
+/// is only looked up, and the answer is `None`. Nothing is refused: cloning numbers takes no memory.
 pub fn take_full<C: Clock>(
     visits: &mut Cache<u64, u64>,
     page: u64,
     limit: u64,
     now: Instant,
     clock: &mut C,
-) -> Result<Option<u64>, ComputeRefused<u64, u64>>
-    ensures full { IfOk result (λ taken. IfSome taken (IsFull visits.old.engine.state page now.0 limit)) }
-    ensures left { IfOk result (λ _. (count : _) → IsFull visits.old.engine.state page now.0 limit count
-        → HasLeft visits.new.engine.state page) }
-    ensures removed { IfOk result (λ taken. (count : _) → IsFull visits.old.engine.state page now.0 limit count
-        → RemovesCount (meaning C.reads) page now visits.old.engine clock.old visits.new.engine clock.new count taken) }
-    ensures looked_up { IfOk result (λ _. ((count : _) → IsFull visits.old.engine.state page now.0 limit count → ⊥)
+) -> Option<u64>
+    ensures full { IfSome result (IsFull visits.old.engine.state page now.0 limit) }
+    ensures left { (count : _) → IsFull visits.old.engine.state page now.0 limit count
+        → HasLeft visits.new.engine.state page }
+    ensures removed { (count : _) → IsFull visits.old.engine.state page now.0 limit count
+        → RemovesCount (meaning C.reads) page now visits.old.engine clock.old visits.new.engine clock.new count result }
+    ensures looked_up { ((count : _) → IsFull visits.old.engine.state page now.0 limit count → ⊥)
         → LooksUp (meaning C.reads) page now visits.old.engine clock.old visits.new.engine clock.new
-        (Ok (count_at visits.old.engine.state page now.0))) }
-    ensures back { IfErr result (λ refused. page_of refused ≡ page) }
-    ensures refused { IfErr result
-        (RefusesTake (meaning C.reads) page now visits.old.engine clock.old visits.new.engine clock.new limit) }
-    ensures looks_up { IfErr result IsOfChange }
-    ensures notified { IfErr result IsNotOfNotice }
+        (Ok (count_at visits.old.engine.state page now.0)) }
 {
     hears_themselves::<u64, u64, DefaultHasher, NoExpiry, NoListener, NoPredicate, NoWeigher, C>();
     let remove_full = move |seen: Option<&u64>| -> Op<u64>
@@ -71,11 +62,12 @@ pub fn take_full<C: Clock>(
             _ => Op::Nop,
         }
     };
-    match visits
-        .entry(page)
-        .and_compute_with(remove_full, now, clock)?
-    {
-        CompResult::Removed(entry) => Ok(Some(entry.value)),
-        _ => Ok(None),
+    let done = match visits.entry(page).and_compute_with(remove_full, now, clock) {
+        Ok(done) => done,
+        Err(_) => unreachable!(),
+    };
+    match done {
+        CompResult::Removed(entry) => Some(entry.value),
+        _ => None,
     }
 }

@@ -12,7 +12,7 @@ pub fn counts_and_takes(visits: &mut Plain) -> bool {
     let taken = take_full(visits, 7, 2, NOW, clock);
     matches!(first, Ok(1))
         && matches!(second, Ok(2))
-        && matches!(left, Ok(None))
-        && matches!(taken, Ok(Some(2)))
+        && left.is_none()
+        && taken == Some(2)
         && !visits.contains_key(&7, NOW)
 }

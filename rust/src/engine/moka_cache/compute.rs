@@ -7,7 +7,6 @@ use crate::engine::moka_calls::answers::found;
 pub use crate::engine::moka_calls::compute::{CompResult, ComputeRefused, Op};
 use crate::engine::moka_calls::error::NotTold;
 use crate::engine::moka_parts::closures::{PredicateFn, Weigher};
-use crate::engine::moka_parts::error::{InsertRefused, OutOfMemory};
 use crate::engine::moka_parts::housekeeper::Clock;
 use crate::engine::moka_parts::notification::Listener;
 use crate::engine::moka_parts::policy::{Expiry, Instant};

@@ -26,8 +26,8 @@ impl<K, V> Listener<K, V> for Places {
 pub type Connections = Cache<u64, u64, NoExpiry, Places>;
 
 /// Closes what is kept under a key. This is a run of the reference cache that keeps all that is promised of a list of
-/// calls (`keeps_promises`): if a listener is set, the value that is closed is handed to it exactly once, unless that is
-/// refused (`is_run`, by `NotifiesAfter`), and so is each other that leaves (`told_once`).
+/// calls (`keeps_promises`): if a listener is set, the value that is closed is handed to it exactly once, unless that
+/// is refused (`is_run`, by `NotifiesAfter`), and so is each other that leaves (`told_once`).
 ///
 /// # Errors
 /// `NotTold`, with the value, of which the listener was not told: its place is the caller's to give back. Only a clone

@@ -3,7 +3,7 @@
 use crate::support::prelude::*;
 
 use crate::engine::moka_cache::laws::hears_themselves;
-use crate::engine::moka_cache::{Cache, CompResult, ComputeRefused, GetWithRefused, Op};
+use crate::engine::moka_cache::{Cache, CompResult, GetWithRefused, Op};
 use crate::engine::moka_engine::{Clock, DefaultHasher, Instant, NoExpiry, NoListener, NoPredicate, NoWeigher};
 
 /// Counts a visit of a page, and hands out how many there are now: one more than the count that is visible at the
@@ -25,18 +25,14 @@ pub fn count<C: Clock>(
 
 /// Takes out a page whose count, visible at the moment `now`, has reached a limit, and hands out the count; `None` if
 /// the run of maintenance that the look-up made had taken the page out already. A page that has not, or is not visible,
-/// is only looked up, and the answer is `None`.
-///
-/// # Errors
-/// As `OwnedKeyEntrySelector::and_compute_with`: the page comes back. Cloning numbers takes no memory, so neither the
-/// look-up nor the notice of a removal is refused.
+/// is only looked up, and the answer is `None`. Nothing is refused: cloning numbers takes no memory.
 pub fn take_full<C: Clock>(
     visits: &mut Cache<u64, u64>,
     page: u64,
     limit: u64,
     now: Instant,
     clock: &mut C,
-) -> Result<Option<u64>, ComputeRefused<u64, u64>>
+) -> Option<u64>
 {
     hears_themselves::<u64, u64, DefaultHasher, NoExpiry, NoListener, NoPredicate, NoWeigher, C>();
     let remove_full = move |seen: Option<&u64>| -> Op<u64>
@@ -46,11 +42,12 @@ pub fn take_full<C: Clock>(
             _ => Op::Nop,
         }
     };
-    match visits
-        .entry(page)
-        .and_compute_with(remove_full, now, clock)?
-    {
-        CompResult::Removed(entry) => Ok(Some(entry.value)),
-        _ => Ok(None),
+    let done = match visits.entry(page).and_compute_with(remove_full, now, clock) {
+        Ok(done) => done,
+        Err(_) => unreachable!(),
+    };
+    match done {
+        CompResult::Removed(entry) => Some(entry.value),
+        _ => None,
     }
 }
