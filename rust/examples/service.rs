@@ -12,7 +12,7 @@ use std::time::{Duration, Instant};
 
 const THREADS: u64 = 8;
 const PAGES: u64 = 20_000;
-const MOST_BYTES: u64 = 4 << 20;
+const MAX_BYTES: u64 = 4 << 20;
 
 /// Counts and bytes of pages: of those that were fetched, and of those that left.
 #[derive(Default)]
@@ -67,7 +67,7 @@ fn main() {
     let (left, fetched, stop) = (Arc::new(Totals::default()), Totals::default(), AtomicBool::new(false));
     let told = Arc::clone(&left);
     let cache: Cache<u64, Arc<str>> = Cache::builder()
-        .max_capacity(MOST_BYTES)
+        .max_capacity(MAX_BYTES)
         .shards(16)
         .weigher(|_, page: &Arc<str>| page.len() as u32)
         .time_to_idle(Duration::from_millis(500))
@@ -95,7 +95,7 @@ fn main() {
     });
     cache.run_pending_tasks();
     let (bytes, stats) = (cache.weighted_size(), cache.stats());
-    assert!(bytes <= MOST_BYTES, "the bound is kept");
+    assert!(bytes <= MAX_BYTES, "the bound is kept");
     // Hidden entries leave too, so that all are told.
     cache.invalidate_all();
     cache.run_pending_tasks();

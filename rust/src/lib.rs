@@ -71,6 +71,8 @@ mod notices;
 pub mod policy;
 #[cfg(test)]
 mod random_calls;
+#[cfg(test)]
+mod random_store;
 mod settings;
 mod shard;
 pub mod sync;

@@ -24,9 +24,9 @@ pub(crate) fn locked<T>(mutex: &Mutex<T>) -> MutexGuard<'_, T> {
 
 // With so many notices waiting a caller that put one there waits for room or its turn to tell them, so that a slow
 // listener is not left behind.
-const MOST_WAITING: usize = 1024;
+const MAX_WAITING: usize = 1024;
 // After so many notices a thread hands its turn on, if another waits for it.
-const MOST_IN_TURN: usize = 256;
+const MAX_IN_TURN: usize = 256;
 
 thread_local! {
     // Whether this thread is in a listener or a maker.
@@ -206,11 +206,11 @@ impl<K, V> Notices<K, V> {
         };
         let mut told = 0;
         // One who is blocked looks again before it waits again, so it takes the turn that is left to it.
-        while told < MOST_IN_TURN || queue.blocked == 0 {
+        while told < MAX_IN_TURN || queue.blocked == 0 {
             let Some(notice) = queue.waiting.pop_front() else {
                 break;
             };
-            if queue.waiting.len() + 1 == MOST_WAITING && queue.blocked > 0 {
+            if queue.waiting.len() + 1 == MAX_WAITING && queue.blocked > 0 {
                 self.changed.notify_all();
             }
             drop(queue);
@@ -219,7 +219,7 @@ impl<K, V> Notices<K, V> {
             queue = locked(&self.queue);
         }
         queue.is_taken = false;
-        if queue.waiting.is_empty() && queue.waiting.capacity() > MOST_WAITING {
+        if queue.waiting.is_empty() && queue.waiting.capacity() > MAX_WAITING {
             queue.waiting = VecDeque::new();
         }
         if queue.blocked > 0 {
@@ -231,7 +231,7 @@ impl<K, V> Notices<K, V> {
     fn take_turn(&self) -> Option<MutexGuard<'_, Queue<K, V>>> {
         let mut queue = locked(&self.queue);
         while queue.is_taken {
-            if IS_AWAITED.get() || queue.waiting.len() < MOST_WAITING {
+            if IS_AWAITED.get() || queue.waiting.len() < MAX_WAITING {
                 return None;
             }
             queue.blocked += 1;
@@ -337,7 +337,7 @@ mod tests {
         });
         notices.deliver();
         let queue = locked(&notices.queue);
-        assert!(queue.waiting.is_empty() && queue.waiting.capacity() <= MOST_WAITING);
+        assert!(queue.waiting.is_empty() && queue.waiting.capacity() <= MAX_WAITING);
     }
 
     #[test]

@@ -146,6 +146,21 @@ module _ {K V X P W : Type 0} (says : P → K → V → Bool → Type 0) (read :
       go (Ok (Some x)) (Ok None) h copied = absurd copied
       go (Ok (Some x)) (Err y) h copied = absurd copied
 
+  -- a disabled map has nothing, and is left as it is
+  pub nothing_found : is_disabled s.capacity ≡ true → (value_found b ≡ Ok None) × (is_disabled t.capacity ≡ true)
+  nothing_found off = (none a b h.0 copied, ap (λ (x : State K V X P W). is_disabled x.capacity) h.1.0 ∙ off)
+    where
+      h : (a ≡ Ok None) × Unchanged s e t
+      h = subst (λ off. MatchBool off ((a ≡ Ok None) × Unchanged s e t) (GetsAt says read Runs s o hash false false now a e t)) off step
+
+      none : (a b : Result (Option (Entry K V)) OutOfMemory) → a ≡ Ok None → IsCopiedAnswer (IsEntryCopy is_key_clone is_value_clone) a b → value_found b ≡ Ok None
+      none a b is copied = of b (subst (λ a. IsCopiedAnswer (IsEntryCopy is_key_clone is_value_clone) a b) is copied)
+        where
+          of : (b : Result (Option (Entry K V)) OutOfMemory) → IsCopiedAnswer (IsEntryCopy is_key_clone is_value_clone) (Ok None) b → value_found b ≡ Ok None
+          of (Ok None) copied = refl
+          of (Ok (Some y)) copied = (let impossible : Some y ≡ None = copied in absurd (cc))
+          of (Err x) copied = absurd copied
+
   -- a refused get changes nothing and reads no clock
   pub unchanged_when_refused : {C : Type 0} (reads : C → Instant → C → Type 0) (clock clock_after : C) → Leads reads clock e.readings clock_after → OnErr (value_found b) ((t ≡ s) × (clock_after ≡ clock))
   unchanged_when_refused reads clock clock_after led = go a b answered copied

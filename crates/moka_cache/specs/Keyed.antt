@@ -1,5 +1,5 @@
--- What a call by key promises of a synchronous cache, whoever makes it: a caller, a cache with a clock of its own, or one
--- in segments.
+-- What a call by key promises of a synchronous cache, whoever makes it: a caller, a cache with a clock of its own, or
+-- one in segments.
 use Rattle.std.specs.Prelude.{◌≡◌, ℕ, Bool, [], true, false, Option, Some, None, Result, IfOk, IfErr, IfSome, OnErr, is_some, ⊤}
 use Rattle.moka_types.specs.declared.error.InsertRefused.{InsertRefused}
 use Rattle.moka_types.specs.declared.error.OutOfMemory.{OutOfMemory}
@@ -45,6 +45,21 @@ IsOfChange refused = ⊤
 abbrev pub IsNotOfNotice : {K V : Type 0} → ComputeRefused K V → Type 0
 IsNotOfNotice (compute_refused.NotTold key refused) = ⊥
 IsNotOfNotice refused = ⊤
+
+-- a clone of the key or of the value that was to be put may fail
+abbrev pub MayFail : {K V : Type 0} → (K → Type 0) → (V → Type 0) → InsertRefused K V → Type 0
+MayFail is_key_infallible is_infallible refused = ¬ (is_key_infallible refused.key × is_infallible refused.value)
+
+-- it was such a clone that was refused, and neither the look-up nor the insert
+abbrev pub IsOfClone : {K V : Type 0} → (K → Type 0) → (V → Type 0) → GetWithRefused K V → Type 0
+IsOfClone is_key_infallible is_infallible (Lookup key) = ⊥
+IsOfClone is_key_infallible is_infallible (Insert refused) = MayFail is_key_infallible is_infallible refused
+
+-- the same of a call that computes, nor the notice of a removal
+abbrev pub IsOfComputedClone : {K V : Type 0} → (K → Type 0) → (V → Type 0) → ComputeRefused K V → Type 0
+IsOfComputedClone is_key_infallible is_infallible (compute_refused.Insert refused) =
+    MayFail is_key_infallible is_infallible refused
+IsOfComputedClone is_key_infallible is_infallible refused = ⊥
 
 -- of this key, which is hashed so, at this moment, with the clock before and after
 module _ {K V S X L P W C : Type 0} (m : Meaning K V X L P W C (Unit {0})) (hash_of : S → K → ℕ) (key : K)

@@ -1,5 +1,5 @@
 //! The synchronous cache: put, get and remove in one call each. moka: `sync::cache`.
-ghost use Rattle.std.specs.Prelude.{◌≡◌, ◌≤◌, [], true, false, Option, Some, None, Result, Ok, Err, IfOk, OnErr, IfErr, IfSome, IsOk, is_some, option_copied, unwrap_or, option_map};
+ghost use Rattle.std.specs.Prelude.{◌≡◌, ◌≤◌, [], true, false, Option, Some, None, Result, Ok, Err, IfOk, OnErr, IfErr, IfSome, IsOk, is_some, option_copied, unwrap_or, option_map, ⊤};
 ghost use Rattle.std.specs.FinMap as finite;
 ghost use Rattle.moka_parts.specs.Calls.{CapacityStep, ContainsStep, InvalidateStep, no_events, only_ids};
 ghost use Rattle.moka_parts.specs.Copies.{IsCopiedAnswer};
@@ -16,7 +16,7 @@ ghost use Rattle.moka_types.specs.declared.error.OutOfMemory.{OutOfMemory};
 ghost use Rattle.moka_records.specs.declared.records.Operation.{Operation};
 ghost use Rattle.moka_records.specs.declared.records.Record.{Record};
 ghost use Rattle.moka_records.specs.Hashing.{key_hash};
-ghost use Rattle.moka_cache.specs.Keyed.{CanNotify, Gets, Inserts, IsOfInsert, Removes};
+ghost use Rattle.moka_cache.specs.Keyed.{CanNotify, Gets, Inserts, IsOfClone, IsOfInsert, MayFail, Removes};
 ghost use Rattle.moka_cache.specs.Unsent.{HoldsUnsent, HidesNoMore, IsThere, ShowsWrites};
 ghost use Rattle.moka_parts.specs.Counters.{after_look_up, after_load};
 ghost use Rattle.moka_calls.specs.Given.{Sees};
@@ -187,14 +187,14 @@ impl<
         self.engine.policy()
     }
 
-    /// How many entries the last run of maintenance counted.
+    /// How many entries the last run of maintenance counted; 0 before the first run.
     pub fn entry_count(&self) -> u64
         ensures { result ≡ self.now.engine.state.count }
     {
         self.engine.entry_count()
     }
 
-    /// The weight that the last run of maintenance counted, saturating.
+    /// The total weight that the last run of maintenance counted, saturating; 0 before the first run.
     pub fn weighted_size(&self) -> u64
         ensures { result ≡ self.now.engine.state.weight }
     {
@@ -209,10 +209,10 @@ impl<
         self.engine.contains_key_with_own_hash(key, hash, now)
     }
 
-    /// Puts a value under a key at the moment `now`. A cache of capacity 0 drops both.
+    /// Puts a value under a key at the moment `now`, in place of one that is there. A cache of capacity 0 drops both.
     ///
     /// # Errors
-    /// `NumbersUsedUp` and `OutOfMemory`, with key and value; nothing has changed.
+    /// `NumbersUsedUp` if too few tickets are left, or `OutOfMemory`. Key and value come back; nothing has changed.
     pub fn insert<C: Clock>(
         &mut self,
         key: K,
@@ -255,6 +255,7 @@ impl<
         ensures shown { IfOk result (λ _. is_disabled self.old.engine.state.capacity ≡ false
             → ShowsWrites self.old.engine.state now.0
             → ContainsStep P.says K.eq self.new.engine.state put.key now.0 true) }
+        ensures disabled { is_disabled self.old.engine.state.capacity ≡ true → IsOk result }
         ensures counted { self.new.stats ≡ self.old.stats }
     {
         let Put { key, hash, value } = put;
@@ -323,6 +324,8 @@ impl<
             → (r : Record K V) × (record_of_key K.eq self.old.engine.state.records key.now ≡ Some r)
             × (p.value ≡ r.value) }
         ensures hasher { self.new.engine.hasher ≡ self.old.engine.hasher }
+        ensures disabled { is_disabled self.old.engine.state.capacity ≡ true
+            → (result ≡ Ok None) × (is_disabled self.new.engine.state.capacity ≡ true) }
     {
         self.engine.invariant_holds();
         let entry = self.engine.get_with_own_hash(key, hash, false, now, clock);
@@ -410,9 +413,9 @@ impl<
         self.take_by(&SameKey(key), hash, now, clock)
     }
 
-    /// A clone of a key's value, if the key is there and visible at the moment `now`, and else the value that `init`
-    /// makes, which is inserted; a clone of it is handed out. `init` is called only if the key is not there. The value
-    /// is inserted at the moment `now`, so if `init` takes longer than the time to live the entry has expired already.
+    /// A clone of a key's value, if the key is there and visible at the moment `now`. Otherwise `init` is called, and
+    /// the value that it returns is inserted and a clone of it handed out. The value is inserted at the moment `now`,
+    /// so if `init` takes longer than the time to live, the entry has expired already.
     ///
     /// ```text
     /// let value = cache.get_with(key, || 20, now, &mut clock)?;
@@ -438,11 +441,13 @@ impl<
             self.old clock.old self.new clock.new (F.post init) result }
         ensures looks_up { CanHandOutValue V.is_infallible
             (record_of_key K.eq self.old.engine.state.records key) → IfErr result IsOfInsert }
+        ensures disabled { is_disabled self.old.engine.state.capacity ≡ true
+            → IfErr result (IsOfClone (λ _. ⊤) V.is_infallible) }
     {
         always_made(self.try_get_with(key, || Ok(init()), now, clock))
     }
 
-    /// As `get_with`, for a maker that may decline: then nothing is inserted, and `None` is answered.
+    /// As `get_with`, for an `init` that may return `None`: then nothing is inserted, and `None` is returned.
     ///
     /// # Errors
     /// As `get_with`.
@@ -463,11 +468,13 @@ impl<
             self.old clock.old self.new clock.new (F.post init) result }
         ensures looks_up { CanHandOutValue V.is_infallible
             (record_of_key K.eq self.old.engine.state.records key) → IfErr result IsOfInsert }
+        ensures disabled { is_disabled self.old.engine.state.capacity ≡ true
+            → IfErr result (IsOfClone (λ _. ⊤) V.is_infallible) }
     {
         if_made(self.try_get_with(key, || init().ok_or(()), now, clock))
     }
 
-    /// As `get_with`, for a maker that may fail: then nothing is inserted, and its error is answered.
+    /// As `get_with`, for an `init` that may fail: then nothing is inserted, and its error is returned.
     ///
     /// ```text
     /// match cache.try_get_with(key, || read_from(source), now, &mut clock)? {
@@ -496,6 +503,8 @@ impl<
             self.old clock.old self.new clock.new (F.post init) result }
         ensures looks_up { CanHandOutValue V.is_infallible
             (record_of_key K.eq self.old.engine.state.records key) → IfErr result IsOfInsert }
+        ensures disabled { is_disabled self.old.engine.state.capacity ≡ true
+            → IfErr result (IsOfClone (λ _. ⊤) V.is_infallible) }
     {
         let hash = self.engine.hash(&key);
         match self.get_hashed(&key, hash, now, clock) {
@@ -571,6 +580,8 @@ impl<
             now put.value own)
             self.old.engine clock.old self.new.engine clock.new }
         ensures back { IfErr result (λ refused. (refused.key ≡ put.key) × (refused.value ≡ put.value)) }
+        ensures disabled { is_disabled self.old.engine.state.capacity ≡ true
+            → IfErr result (MayFail (λ _. ⊤) V.is_infallible) }
         ensures counted { self.new.stats ≡ self.old.stats }
     {
         let Put { key, hash, value } = put;
@@ -589,8 +600,8 @@ impl<
         self.stats.loads = self.stats.loads.saturating_add(1);
     }
 
-    /// Registers a predicate at the moment `now`, as the engine's call of this name does: what it covers is hidden from
-    /// now on, and runs of maintenance remove it.
+    /// Registers a predicate at the moment `now`. The entries written at that moment or before that it applies to are
+    /// hidden from now on, and runs of maintenance remove them.
     ///
     /// # Errors
     /// As the engine's: the predicate comes back, and nothing has changed.
@@ -623,8 +634,8 @@ impl<
         self.engine.set_max_capacity(capacity)
     }
 
-    /// Invalidates all entries that were written or read before the moment `now`, which replaces that of an earlier
-    /// call.
+    /// Hides all entries that were written or read before the moment `now`; runs of maintenance remove them. This
+    /// moment replaces that of an earlier call.
     pub fn invalidate_all(&mut self, now: Instant)
         ensures step { self.new.engine.state ≡ record self.old.engine.state { invalid_before = Some now } }
         ensures events { Befalls L.tells no_events self.old.engine self.new.engine }
@@ -635,8 +646,8 @@ impl<
 
     /// Runs maintenance without a time limit. The answer tells whether more is left.
     ///
-    /// It leaves count and weight exactly the entries', and the weight within the capacity, and each entry is in the
-    /// order of access.
+    /// Afterwards `entry_count` and `weighted_size` are exact, the weight is within the capacity, and `snapshot` leaves
+    /// no visible entry out.
     pub fn run_pending_tasks<C: Clock>(&mut self, now: Instant, clock: &mut C) -> bool
     where
         K: Drop,

@@ -1,5 +1,6 @@
 //! The entry call that computes what is to be done from the value that is there. moka: `ops::compute`.
-ghost use Rattle.std.specs.Prelude.{◌≡◌, Option, None, Result, IfErr, option_copied, option_map};
+ghost use Rattle.std.specs.Prelude.{◌≡◌, true, Option, None, Result, IfErr, option_copied, option_map};
+ghost use Rattle.moka_parts.specs.State.{is_disabled};
 ghost use Rattle.moka_records.specs.Records.{record_of_key};
 ghost use Rattle.moka_types.specs.declared.error.InsertRefused.{InsertRefused};
 ghost use Rattle.moka_types.specs.declared.error.OutOfMemory.{OutOfMemory};
@@ -7,7 +8,7 @@ ghost use Rattle.moka_calls.specs.Computing.{HandsOutComputedPut, HandsOutTaken,
 ghost use Rattle.moka_calls.specs.Given.{Sees};
 ghost use Rattle.moka_records.specs.Hashing.{key_hash};
 ghost use Rattle.moka_engine.specs.Looks.{CanHandOutValue};
-ghost use Rattle.moka_cache.specs.Keyed.{CanNotifyOfAny, IsNotOfNotice, IsOfChange};
+ghost use Rattle.moka_cache.specs.Keyed.{CanNotifyOfAny, IsNotOfNotice, IsOfChange, IsOfComputedClone};
 ghost use Rattle.moka_calls.specs.Synchronous.{InsertsMade, Makes, RemovesEntry, hears_clones, meaning_of};
 
 use crate::cache::{Cache, Put};
@@ -51,6 +52,8 @@ impl<
             × F.post f x op) result }
         ensures looks_up { CanHandOutValue V.is_infallible
             (record_of_key K.eq self.old.engine.state.records key) → IfErr result IsOfChange }
+        ensures disabled { is_disabled self.old.engine.state.capacity ≡ true
+            → IfErr result (IsOfComputedClone K.is_infallible V.is_infallible) }
         ensures notified { CanNotifyOfAny K.is_infallible V.is_infallible self.old.engine.state.settings.listening
             → IfErr result IsNotOfNotice }
     {
@@ -94,6 +97,8 @@ impl<
             (InsertsMade put.key (key_hash S.BuildHasher S.Hasher.Hasher self.old.engine.hasher (K.hash_input put.key))
             now put.value own)
             self.old.engine clock.old self.new.engine clock.new }
+        ensures disabled { is_disabled self.old.engine.state.capacity ≡ true
+            → IfErr result (IsOfComputedClone K.is_infallible V.is_infallible) }
         ensures counted { self.new.stats ≡ self.old.stats }
     {
         let entry = self.insert_entry(put, is_there, now, clock)?;

@@ -10,8 +10,8 @@ use moka_parts::notification::Listener;
 use moka_parts::policy::{Expiry, Instant};
 use std::hash::{BuildHasher, Hash};
 
-/// Invalidates all entries of each cache that were written or read before the moment `now`, which replaces that of an
-/// earlier call.
+/// Hides all entries of each cache that were written or read before the moment `now`; runs of maintenance remove them.
+/// This moment replaces that of an earlier call.
 pub fn invalidate_each<
     K: Eq + Hash,
     V,

@@ -1,8 +1,10 @@
 //! The insert of entry calls, which hands out its entry. moka: `sync::entry_selector`.
-ghost use Rattle.std.specs.Prelude.{◌≡◌, Result, IfOk, IfErr};
+ghost use Rattle.std.specs.Prelude.{◌≡◌, true, Result, IfOk, IfErr};
 ghost use Rattle.moka_types.specs.declared.error.InsertRefused.{InsertRefused};
+ghost use Rattle.moka_parts.specs.State.{is_disabled};
 ghost use Rattle.moka_calls.specs.Entries.{entry_value, IsFresh};
 ghost use Rattle.moka_records.specs.Hashing.{key_hash};
+ghost use Rattle.moka_cache.specs.Keyed.{MayFail};
 ghost use Rattle.moka_calls.specs.Synchronous.{Makes, meaning_of, InsertsMade, HandsOutOwn};
 
 use crate::cache::{Cache, Put};
@@ -42,6 +44,8 @@ impl<
             now put.value own)
             self.old.engine clock.old self.new.engine clock.new }
         ensures back { IfErr result (λ refused. (refused.key ≡ put.key) × (refused.value ≡ put.value)) }
+        ensures disabled { is_disabled self.old.engine.state.capacity ≡ true
+            → IfErr result (MayFail K.is_infallible V.is_infallible) }
         ensures entry { IfOk result (λ e. IsFresh K.is_clone put.key e
             × (e.is_old_value_replaced ≡ is_old_value_replaced)) }
         ensures counted { self.new.stats ≡ self.old.stats }

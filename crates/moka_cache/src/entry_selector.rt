@@ -2,13 +2,14 @@
 //! call. moka: `sync::entry_selector`.
 ghost use Rattle.std.specs.Prelude.{◌≡◌, false, true, IfErr, IsOk, Option, option_copied};
 ghost use Rattle.moka_parts.specs.Calls.{ContainsStep};
+ghost use Rattle.moka_parts.specs.State.{is_disabled};
 ghost use Rattle.moka_calls.specs.Computing.{AndUpserts, AndComputes};
 ghost use Rattle.moka_calls.specs.Entries.{OrInserts, OrInsertsMade, OrInsertsIfMade, OrInsertsIfNoError};
 ghost use Rattle.moka_calls.specs.Given.{Sees};
 ghost use Rattle.moka_records.specs.Hashing.{key_hash};
 ghost use Rattle.moka_records.specs.Records.{record_of_key};
 ghost use Rattle.moka_engine.specs.Looks.{CanHandOutValue};
-ghost use Rattle.moka_cache.specs.Keyed.{CanNotifyOfAny, IsNotOfNotice, IsOfChange, IsOfInsert};
+ghost use Rattle.moka_cache.specs.Keyed.{CanNotifyOfAny, IsNotOfNotice, IsOfChange, IsOfClone, IsOfComputedClone, IsOfInsert, MayFail};
 ghost use Rattle.moka_calls.specs.Synchronous.{meaning_of, hears_clones};
 
 use crate::cache::{Cache, Put};
@@ -65,12 +66,12 @@ impl<
     W: Weigher<K, V>,
     S: BuildHasher,
 > OwnedKeyEntrySelector<'a, K, V, X, L, P, W, S> {
-    /// The key's entry, with a clone of its value, if the key is there and visible at the moment `now`; else `value` is
-    /// inserted. If the key is there, `value` is dropped. No load is counted. moka: `or_insert`.
+    /// The key's entry, with a clone of its value, if the key is there and visible at the moment `now`; then `value` is
+    /// dropped. Otherwise `value` is inserted. No load is counted. moka: `or_insert`.
     ///
     /// # Errors
-    /// `OutOfMemory` if memory for a clone or for the insert is refused, and `NumbersUsedUp`; key and value come back,
-    /// and nothing was inserted.
+    /// `OutOfMemory` if memory for a clone or for the insert is refused, `NumbersUsedUp` if too few tickets are left;
+    /// key and value come back, and nothing was inserted.
     pub fn or_insert<C: Clock>(
         self,
         value: V,
@@ -88,6 +89,8 @@ impl<
         ensures succeeds { ContainsStep P.says K.eq self.entry.cache.now.engine.state self.entry.key now.0 true
             → CanHandOutValue V.is_infallible
             (record_of_key K.eq self.entry.cache.now.engine.state.records self.entry.key) → IsOk result }
+        ensures disabled { is_disabled self.entry.cache.now.engine.state.capacity ≡ true
+            → IfErr result (MayFail K.is_infallible V.is_infallible) }
     {
         let OwnedKeyEntrySelector { cache, key } = self;
         let hash = cache.hash_of(&key);
@@ -102,8 +105,8 @@ impl<
         cache.insert_entry(Put { key, hash, value }, false, now, clock)
     }
 
-    /// As `or_insert`, for the value that `init` makes, which is inserted at the moment `now` as by `Cache::get_with`.
-    /// `init` is called only if the key is not there. moka: `or_insert_with`.
+    /// As `or_insert`, for the value that `init` returns, inserted at the moment `now` as by `Cache::get_with`. `init`
+    /// is called only if no value is visible, and counted as a load. moka: `or_insert_with`.
     ///
     /// # Errors
     /// `Lookup`, with the key, if memory for the clone of a value that is there is refused; and `Insert`, with key and
@@ -125,12 +128,14 @@ impl<
             self.entry.cache.now clock.old self.exit.0.now clock.new (F.post init) result }
         ensures looks_up { CanHandOutValue V.is_infallible
             (record_of_key K.eq self.entry.cache.now.engine.state.records self.entry.key) → IfErr result IsOfInsert }
+        ensures disabled { is_disabled self.entry.cache.now.engine.state.capacity ≡ true
+            → IfErr result (IsOfClone K.is_infallible V.is_infallible) }
     {
         always_made(self.or_try_insert_with(|| Ok(init()), now, clock))
     }
 
-    /// As `or_insert_with`, for a maker that may decline: then nothing is inserted, and `None` is answered. moka:
-    /// `or_optionally_insert_with`.
+    /// As `or_insert_with`, for an `init` that may return `None`: then nothing is inserted, and `None` is returned.
+    /// moka: `or_optionally_insert_with`.
     ///
     /// # Errors
     /// As `or_insert_with`.
@@ -151,11 +156,13 @@ impl<
             self.entry.cache.now clock.old self.exit.0.now clock.new (F.post init) result }
         ensures looks_up { CanHandOutValue V.is_infallible
             (record_of_key K.eq self.entry.cache.now.engine.state.records self.entry.key) → IfErr result IsOfInsert }
+        ensures disabled { is_disabled self.entry.cache.now.engine.state.capacity ≡ true
+            → IfErr result (IsOfClone K.is_infallible V.is_infallible) }
     {
         if_made(self.or_try_insert_with(|| init().ok_or(()), now, clock))
     }
 
-    /// As `or_insert_with`, for a maker that may fail: then nothing is inserted, and its error is answered. moka:
+    /// As `or_insert_with`, for an `init` that may fail: then nothing is inserted, and its error is returned. moka:
     /// `or_try_insert_with`.
     ///
     /// # Errors
@@ -178,6 +185,8 @@ impl<
             self.entry.cache.now clock.old self.exit.0.now clock.new (F.post init) result }
         ensures looks_up { CanHandOutValue V.is_infallible
             (record_of_key K.eq self.entry.cache.now.engine.state.records self.entry.key) → IfErr result IsOfInsert }
+        ensures disabled { is_disabled self.entry.cache.now.engine.state.capacity ≡ true
+            → IfErr result (IsOfClone K.is_infallible V.is_infallible) }
     {
         let OwnedKeyEntrySelector { cache, key } = self;
         let hash = cache.hash_of(&key);
@@ -227,6 +236,8 @@ impl<
             self.entry.cache.now clock.old self.exit.0.now clock.new (F.post f) result }
         ensures looks_up { CanHandOutValue V.is_infallible
             (record_of_key K.eq self.entry.cache.now.engine.state.records self.entry.key) → IfErr result IsOfInsert }
+        ensures disabled { is_disabled self.entry.cache.now.engine.state.capacity ≡ true
+            → IfErr result (IsOfClone K.is_infallible V.is_infallible) }
     {
         let OwnedKeyEntrySelector { cache, key } = self;
         let hash = cache.hash_of(&key);
@@ -252,8 +263,8 @@ impl<
     /// ```
     ///
     /// # Errors
-    /// `Lookup`, with the key, if memory for the clone of the value that is there is refused; `f` was not called. And
-    /// `Insert` and `NotTold`, with key and value.
+    /// `Lookup`, with the key, if memory for the clone of the value that is there is refused; `f` was not called.
+    /// `Insert` as `and_upsert_with`. `NotTold`, with key and value, if the listener is not notified of the removal.
     pub fn and_compute_with<F: FnOnce(Option<&V>) -> Op<V>, C: Clock>(
         self,
         f: F,
@@ -275,6 +286,8 @@ impl<
             × F.post f x op) result }
         ensures looks_up { CanHandOutValue V.is_infallible
             (record_of_key K.eq self.entry.cache.now.engine.state.records self.entry.key) → IfErr result IsOfChange }
+        ensures disabled { is_disabled self.entry.cache.now.engine.state.capacity ≡ true
+            → IfErr result (IsOfComputedClone K.is_infallible V.is_infallible) }
         ensures notified { CanNotifyOfAny K.is_infallible V.is_infallible
             self.entry.cache.now.engine.state.settings.listening → IfErr result IsNotOfNotice }
     {

@@ -18,7 +18,7 @@ impl<
     W: Weigher<K, V>,
     S: BuildHasher,
 > Cache<K, V, X, CountingListener<L>, P, W, S> {
-    /// How many values left, by cause, as the cache's listener was notified; none if the cache has none. A removal
+    /// How many removals the cache's listener was notified of, by cause; all 0 if the cache has no listener. A removal
     /// of which it could not be notified, since memory was refused, is not counted.
     ///
     /// ```text

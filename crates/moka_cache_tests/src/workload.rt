@@ -16,9 +16,13 @@ const POLICY: usize = 3;
 
 const EXPIRY: usize = 4;
 
+const AUTOMATIC: usize = 5;
+
 const HASHER: usize = 7;
 
 const TEXTS: usize = 8;
+
+const STEP: usize = 9;
 
 const CACHE: usize = 10;
 
@@ -32,8 +36,14 @@ const PLAIN: [u64; 16] = [NONE, NONE, NONE, 1, 0, 1, 0, 0, 0, 1, 0, 0, 0, 0, 0, 
 /// What is answered, with the first six counts.
 type Outcome = (u64, [u64; 6]);
 
-/// What is tested: a capacity, a word by its index, a stream, and what comes of it.
-struct Case(&'static str, u64, (usize, u64), &'static [u64], Outcome);
+/// What is tested: a capacity, words by their index, a stream, and what comes of it.
+struct Case(
+    &'static str,
+    u64,
+    &'static [(usize, u64)],
+    &'static [u64],
+    Outcome,
+);
 
 // Three keys are read through, a run evicts the oldest, and the two that are left are found.
 const READ_THROUGH: [u64; 23] = [
@@ -51,37 +61,75 @@ const COMPETING: [u64; 27] = [
     3, 4, 0, 0, 10, 10, 10, 10, 5, 0, 384, 0, 2, 1, 0, 0, 20, 5, 0, 384, 0, 1, 2, 0, 0, 10, 20,
 ];
 
+// By two steps of three nanoseconds an entry is as old as its time to live when it is looked for, and a newer one is
+// found. The second put comes late enough for a run, but none is asked for.
+const STEPPED: [u64; 20] = [
+    2,
+    1,
+    0,
+    0,
+    10,
+    6,
+    0,
+    300_000_000,
+    0,
+    2,
+    1,
+    0,
+    0,
+    20,
+    1,
+    2,
+    0,
+    0,
+    10,
+    20,
+];
+
 // Both caches answer alike, and under both hashers.
-const OF_BOTH: [Case; 5] = [
+const OF_BOTH: [Case; 6] = [
     Case(
         "a capacity",
         2,
-        (POLICY, 1),
+        &[(POLICY, 1)],
         &READ_THROUGH,
         (0, [3, 4, 3, 63, 2, 0]),
     ),
     Case(
         "a time to live",
         NONE,
-        (TIME_TO_LIVE, 9),
+        &[(TIME_TO_LIVE, 9)],
         &AGED,
         (0, [1, 2, 2, 11, 0, 0]),
     ),
     Case(
         "a time to idle",
         NONE,
-        (TIME_TO_IDLE, 9),
+        &[(TIME_TO_IDLE, 9)],
         &AGED,
         (0, [2, 1, 2, 22, 1, 0]),
     ),
     Case(
         "TinyLFU",
         1,
-        (POLICY, 0),
+        &[(POLICY, 0)],
         &COMPETING,
         (0, [4, 2, 2, 44, 1, 0]),
     ),
-    Case("LRU", 1, (POLICY, 1), &COMPETING, (0, [4, 2, 2, 54, 1, 0])),
+    Case(
+        "LRU",
+        1,
+        &[(POLICY, 1)],
+        &COMPETING,
+        (0, [4, 2, 2, 54, 1, 0]),
+    ),
+    Case(
+        "steps of three, and no runs by itself",
+        NONE,
+        &[(TIME_TO_LIVE, 300_000_006), (AUTOMATIC, 0), (STEP, 3)],
+        &STEPPED,
+        (0, [1, 1, 2, 21, 0, 0]),
+    ),
 ];
 
 // Two texts are read through, and found again: what is found counts as its last digit, and numbers past the last text
@@ -107,33 +155,39 @@ const HEARD: [u64; 11] = [2, 3, 0, 0, 10, 10, 20, 5, 0, 384, 0];
 const UNTOUCHED: [u64; 6] = [0x0707_0707_0707_0707; 6];
 
 const OF_ENGINES: [Case; 6] = [
-    Case("texts", NONE, (TEXTS, 10), &READ, (0, [3, 2, 2, 148, 2, 0])),
+    Case(
+        "texts",
+        NONE,
+        &[(TEXTS, 10)],
+        &READ,
+        (0, [3, 2, 2, 148, 2, 0]),
+    ),
     Case(
         "an expiry",
         NONE,
-        (EXPIRY, 1),
+        &[(EXPIRY, 1)],
         &EXPIRING,
         (0, [1, 1, 2, 70, 1, 0]),
     ),
     Case(
         "a weigher",
         20,
-        (WEIGHER, 1),
+        &[(WEIGHER, 1)],
         &WEIGHED,
         (0, [1, 1, 2, 15, 1, 0]),
     ),
     Case(
         "a listener",
         1,
-        (LISTENER, 1),
+        &[(LISTENER, 1)],
         &HEARD,
         (0, [0, 0, 3, 0, 1, 2]),
     ),
-    Case("no policy", 1, (POLICY, 2), &HEARD, (1, UNTOUCHED)),
+    Case("no policy", 1, &[(POLICY, 2)], &HEARD, (1, UNTOUCHED)),
     Case(
         "a phase that is cut short",
         1,
-        (POLICY, 1),
+        &[(POLICY, 1)],
         &[1, 2, 0, 0, 5],
         (3, UNTOUCHED),
     ),
@@ -160,13 +214,15 @@ fn drives_engines(rt: HostRuntime) -> Result<(), Fail> {
 
 // Whether a case comes out with this hasher and this cache.
 fn comes_out(alloc: Global, case: &Case, hasher: u64, cache: u64) -> Result<bool, AllocError> {
-    let Case(_, capacity, (index, number), stream, expected) = case;
+    let Case(_, capacity, changed, stream, expected) = case;
     let mut config = PLAIN;
     config[CAPACITY] = *capacity;
     config[HASHER] = hasher;
     config[CACHE] = cache;
-    if let Some(word) = config.get_mut(*index) {
-        *word = *number;
+    for (index, number) in *changed {
+        if let Some(word) = config.get_mut(*index) {
+            *word = *number;
+        }
     }
     Ok(outcome(alloc, &config, stream)? == *expected)
 }

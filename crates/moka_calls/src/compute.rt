@@ -31,7 +31,7 @@ pub enum CompResult<K, V> {
     Unchanged(CacheEntry<K, V>),
 }
 
-/// Why `and_compute_with` did not do what was answered.
+/// Why `and_compute_with` did not do what its closure asked for.
 #[derive(Debug, Drop)]
 pub enum ComputeRefused<K, V> {
     /// Memory for a clone of the value that is there was refused. Nothing has changed, and the key comes back.

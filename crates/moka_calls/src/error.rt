@@ -3,8 +3,8 @@ use moka_parts::error::{InsertRefused, OutOfMemory};
 use std::error::Error;
 use std::fmt;
 
-/// A removal whose listener was not notified, since memory for a clone was refused. The value is gone from the cache,
-/// and comes back.
+/// A removal of which the listener was not notified, since memory for a clone was refused. The value is gone from the
+/// cache, and comes back.
 #[derive(Debug, Drop)]
 pub struct NotTold<V> {
     /// Why the listener was not notified.

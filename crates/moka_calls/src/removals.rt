@@ -18,7 +18,7 @@ pub struct Removals {
 }
 
 impl Removals {
-    /// Nothing was counted.
+    /// Counters that are all 0.
     pub fn new() -> Self
         ensures { result ≡ no_removals }
     {

@@ -56,7 +56,7 @@ pub use moka_parts::restores::{RestoreError, RestoreRefused, Restored};
 // How many segments the map has.
 const SEGMENTS: usize = 1;
 
-/// A cache. moka: `sync::base_cache::BaseCache`.
+/// The cache engine: each write returns a ticket, for the caller to send. moka: `sync::base_cache::BaseCache`.
 pub struct BaseCache<K: Eq + Hash, V, S: BuildHasher, X: Expiry<K, V>, L, P, W> {
     alloc: Global,
     name: Option<String>,
@@ -172,8 +172,8 @@ impl<
     ///   refused with `NumbersUsedUp`.
     ///
     /// # Errors
-    /// `OutOfMemory` if memory for the tables is refused, or if `initial_capacity` would need a place of more than
-    /// 32 bits.
+    /// `OutOfMemory` if memory for the tables is refused, or if `initial_capacity` is above the limit of records, just
+    /// below 2^32.
     #[allow(clippy::too_many_arguments)]
     pub fn new(
         alloc: Global,
@@ -325,14 +325,14 @@ impl<
         self.notifier.listener()
     }
 
-    /// Puts a value under a key at the moment `now`, and hands out a ticket for the operation, which is to be sent. The
-    /// record of a key that is there keeps its first key and first hash, and the listener is notified of the key handed
-    /// in with the old value, both of which it may keep.
+    /// Puts a value under a key at the moment `now`, and returns a ticket, under which to send the operation, and, as
+    /// moka does, `now`. The capacity must not be 0. `hash` may be any number: the sketch counts by it. A record that
+    /// is there keeps its first key and hash; the listener takes the key handed in and the old value.
     ///
     /// # Errors
-    /// `NumbersUsedUp` if too few tickets are left, and `OutOfMemory` if memory for the operation or for a new
-    /// record is refused, or if a new record would need a place of more than 32 bits: fewer than 2^32 records are
-    /// kept. Key and value come back, and nothing has changed.
+    /// `NumbersUsedUp` if too few tickets are left, and `OutOfMemory` if memory for the operation or for a new record
+    /// is refused, or a new record would be one too many: fewer than 2^32 are kept. Key and value come back, and
+    /// nothing has changed.
     #[inline(always)]
     pub fn do_insert_with_hash(
         &mut self,
@@ -446,8 +446,8 @@ impl<
         self.inner.send(ticket)
     }
 
-    /// Takes a key's record out, expired or not, and hands out a ticket for the removal, which is to be sent. The
-    /// answer has the record's own key and value with its moments. It takes no memory, and the listener is not
+    /// Removes a key's record, expired or not, and returns its own key and value, its moments, and a ticket, under
+    /// which the removal is to be sent. It takes no memory and ignores `_hash`, which moka takes. The listener is not
     /// notified: `notify_invalidate` does that.
     pub fn remove_entry(&mut self, key: &K, _hash: u64) -> Option<(KvEntry<K, V>, Ticket)>
     where
@@ -492,8 +492,8 @@ impl<
         Some((entry_of_record(record), ticket))
     }
 
-    /// Notifies the listener of an entry that was removed, with clones of its key and value: it had expired by its
-    /// moments, or was removed explicitly. Without a listener nothing is cloned.
+    /// Notifies the listener of an entry that was removed, with clones of key and value. The cause is `Expired` if its
+    /// time to live or idle has passed at the moment `now`, else `Explicit`. Without a listener nothing is cloned.
     ///
     /// # Errors
     /// `OutOfMemory` if memory for a clone is refused. The listener is not notified.
@@ -527,8 +527,8 @@ impl<
         Ok(())
     }
 
-    /// Invalidates all records that were written or read before the moment `now`, which replaces that of an earlier
-    /// call. They are hidden from now on, and runs of maintenance remove them.
+    /// Hides all records that were written or read before the moment `now`; runs of maintenance remove them. This
+    /// moment replaces that of an earlier call.
     pub fn invalidate_all(&mut self, now: Instant)
         ensures step { self.new.state ≡ record self.old.state { invalid_before = Some now } }
         ensures events { Befalls L.tells no_events self.old self.new }
@@ -536,7 +536,7 @@ impl<
         self.valid_after = Some(now);
     }
 
-    /// Whether a key is there and visible at the moment `now`. Nothing is recorded.
+    /// Whether a key is there and visible at the moment `now`. Nothing is recorded, and `_hash` is ignored.
     pub fn contains_key_with_hash(&self, key: &K, _hash: u64, now: Instant) -> bool
         ensures { ContainsStep P.says K.eq self.now.state key.now now.0 result }
     {
@@ -577,7 +577,7 @@ impl<
         }
     }
 
-    /// The key that the cache keeps for an equal one, visible or not. Nothing is recorded.
+    /// The key that the cache keeps for an equal one, visible or not. Nothing is recorded, and `_hash` is ignored.
     pub fn get_key_with_hash(&self, key: &K, _hash: u64) -> Option<&K>
         ensures { option_copied result ≡ option_map (λ r. r.key) (record_of_key K.eq self.now.state.records key.now) }
     {
@@ -592,7 +592,7 @@ impl<
         SEGMENTS
     }
 
-    /// Clones of the keys of all records in segment 0, in no particular order, and `None` for any other segment.
+    /// Clones of all records' keys, in no particular order, if `segment` is 0, else `None`: moka has more segments.
     ///
     /// # Errors
     /// `OutOfMemory` if memory for the list or for a clone is refused.

@@ -130,9 +130,9 @@ impl<X, L, P, W> CacheConfig<X, L, P, W> {
         self
     }
 
-    /// The number of entries that room is made for at once, whatever their weights. It bounds nothing, and `build`
-    /// refuses a number for which there is no memory, or that needs a place of more than 32 bits. By default no room is
-    /// asked for.
+    /// How many entries room is made for at once, whatever they weigh. It bounds nothing, and `build` refuses
+    /// a number above the limit of records, just below 2^32, or one for which memory is refused. By default
+    /// no room is made.
     pub fn initial_capacity(mut self, number_of_entries: usize) -> Self
         ensures { result ≡ record self { initial_capacity = Some number_of_entries } }
     {
@@ -168,9 +168,9 @@ impl<X, L, P, W> CacheConfig<X, L, P, W> {
         self
     }
 
-    /// Decides when each entry expires: inserts and gets ask it how long the entry lasts, and its answer replaces what
-    /// was left. The sum of a moment and an answer saturates at 2^64 - 1 nanoseconds. By default no entry has an expiry
-    /// of its own.
+    /// Sets what decides when each entry expires: inserts and gets ask it how long the entry lasts, and its answer
+    /// replaces what was left. The sum of a moment and an answer saturates at 2^64 - 1 nanoseconds. By default no entry
+    /// has an expiry of its own.
     pub fn expire_after<Y>(self, expiry: Y) -> CacheConfig<Y, L, P, W>
     where
         X: Drop,
@@ -185,7 +185,7 @@ impl<X, L, P, W> CacheConfig<X, L, P, W> {
         }
     }
 
-    /// Weighs each entry as it is inserted; a weight is from 0 to 2^32 - 1. By default each entry weighs 1.
+    /// Sets what weighs each entry as it is inserted, from 0 to 2^32 - 1. By default each entry weighs 1.
     pub fn weigher<U>(self, weigher: U) -> CacheConfig<X, L, P, U>
     where
         W: Drop,
@@ -200,8 +200,8 @@ impl<X, L, P, W> CacheConfig<X, L, P, W> {
         }
     }
 
-    /// Is notified of key, value and cause of each value that leaves, but for those that `remove_entry`,
-    /// `remove_entry_with_own_hash` and `remove_by` of the engine hand out. By default nobody is notified.
+    /// Sets the listener, which is notified of key, value and cause of each value that leaves, except those that the
+    /// engine's `remove_entry`, `remove_entry_with_own_hash` and `remove_by` return. By default nobody is notified.
     pub fn eviction_listener<M>(self, listener: M) -> CacheConfig<X, M, P, W>
     where
         L: Drop,
@@ -216,8 +216,8 @@ impl<X, L, P, W> CacheConfig<X, L, P, W> {
         }
     }
 
-    /// Predicates of the type `Q` can be registered. By default there are none, and `invalidate_entries_if` refuses
-    /// each.
+    /// Lets predicates of the type `Q` be registered. By default `invalidate_entries_if` refuses every
+    /// predicate.
     pub fn support_invalidation_closures<Q>(self) -> CacheConfig<X, L, Q, W>
         ensures { result ≡ record self { invalidator = true } }
     {
@@ -260,7 +260,7 @@ impl<X, L, P, W> CacheConfig<X, L, P, W> {
     /// An empty cache made at the moment `now`, with the default hasher. It takes its memory from `alloc`.
     ///
     /// # Errors
-    /// `OutOfMemory` if memory for the tables is refused, or the initial capacity needs a place of more than 32 bits.
+    /// `OutOfMemory` if memory for the tables is refused, or the initial capacity is above the limit, just below 2^32.
     pub fn build<K, V>(
         self,
         alloc: Global,
@@ -282,7 +282,7 @@ impl<X, L, P, W> CacheConfig<X, L, P, W> {
     /// An empty cache made at the moment `now`, with this hasher. It takes its memory from `alloc`.
     ///
     /// # Errors
-    /// `OutOfMemory` if memory for the tables is refused, or the initial capacity needs a place of more than 32 bits.
+    /// `OutOfMemory` if memory for the tables is refused, or the initial capacity is above the limit, just below 2^32.
     pub fn build_with_hasher<K, V, S>(
         self,
         alloc: Global,

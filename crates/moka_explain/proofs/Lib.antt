@@ -2,3 +2,4 @@ pub mod Looked
 pub mod Room
 pub mod Grounds
 pub mod Ran
+mod Lines

@@ -1,3 +1,4 @@
 pub mod Looks
 pub mod Grounds
 pub mod Explained
+pub mod Text

@@ -3,7 +3,7 @@ ghost use Rattle.std.specs.Prelude.{◌≡◌, ◌≤◌, ◌+◌, ◌-◌, ◌*
 
 use crate::escape::Escaped;
 use crate::row::{POLICIES, Policy, Row};
-use crate::scale::{Grouped, MOST_TICKS, axis_end, place, tick_step};
+use crate::scale::{Grouped, MAX_TICKS, axis_end, place, tick_step};
 use crate::tally::WHOLE;
 use std::io::{self, Write};
 
@@ -127,7 +127,7 @@ fn draw_ratios<W: Write>(out: &mut W, scales: Scales) -> io::Result<()> {
 /// Draws ticks at capacities, with their numbers.
 fn draw_capacities<W: Write>(out: &mut W, scales: Scales) -> io::Result<()> {
     let (top, bottom) = (TOP + HEIGHT, TOP + HEIGHT + 70);
-    for tick in 0..=MOST_TICKS + 1 {
+    for tick in 0..=MAX_TICKS + 1 {
         let Some(capacity) = scales.step.checked_mul(tick) else {
             break;
         };

@@ -40,7 +40,8 @@ pub fn count(
     first_counted: u64,
     capacity: u64,
 ) -> Result<Tally, AllocError>
-    ensures hits { IfOk result (λ tally. tally.hits ≡ (played first_counted capacity nexts.now (length nexts.now)).hits) }
+    ensures hits { IfOk result (λ tally. tally.hits
+        ≡ (played first_counted capacity nexts.now (length nexts.now)).hits) }
     ensures reads { IfOk result (λ tally. tally.reads
         ≡ (played first_counted capacity nexts.now (length nexts.now)).reads) }
 {

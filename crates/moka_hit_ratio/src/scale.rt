@@ -4,7 +4,7 @@ ghost use Rattle.std.specs.Prelude.{◌≡◌, ◌<◌, ◌≤◌, ◌+◌, ◌-
 use std::fmt;
 
 /// At most so many ticks stand on an axis, beside that of 0.
-pub const MOST_TICKS: u64 = 8;
+pub const MAX_TICKS: u64 = 8;
 
 /// More powers of ten than a number of 64 bits has.
 const POWERS: u32 = 20;
@@ -27,15 +27,15 @@ pub fn tick_step(top: u64) -> u64
 {
     let mut unit: u64 = 1;
     for _ in 0..POWERS {
-        if top / unit.max(1) <= 5 * MOST_TICKS {
+        if top / unit.max(1) <= 5 * MAX_TICKS {
             break;
         }
         unit = unit.saturating_mul(10);
     }
     let unit = unit.max(1);
-    if top / unit <= MOST_TICKS {
+    if top / unit <= MAX_TICKS {
         unit
-    } else if top / unit / 2 <= MOST_TICKS {
+    } else if top / unit / 2 <= MAX_TICKS {
         unit.saturating_mul(2)
     } else {
         unit.saturating_mul(5)

@@ -1,10 +1,10 @@
 //! An index of places by the hashes of what lies there. It keeps no keys.
-ghost use Rattle.std.specs.Prelude.{◌≡◌, ℕ, ◌+◌, ◌*◌, ◌^◌, ◌<◌, ◌≤◌, min, true, false, IfSome, IfNone, OnOk, OnErr, IsOk, None, Some, nat_eq};
+ghost use Rattle.std.specs.Prelude.{◌≡◌, ℕ, ◌+◌, ◌*◌, ◌^◌, ◌<◌, ◌≤◌, min, max, true, false, IfSome, IfNone, OnOk, OnErr, IsOk, None, Some, nat_eq};
 ghost use Rattle.std.specs.FinMap as finite;
 
 use crate::group::Group;
 use crate::groups::{
-    MOST_GROUPS, PLACES_PER_GROUP, empty_groups, find_entry, insert_entry, move_entries,
+    MAX_GROUPS, PLACES_PER_GROUP, empty_groups, find_entry, insert_entry, move_entries,
     remove_entry,
 };
 use std::alloc::{AllocError, Global};
@@ -76,8 +76,9 @@ impl PlaceIndex {
     }
 
     /// Makes room for `additional` more places, and changes nothing if there is room. If there is too little, the
-    /// places that fit are afterwards at least twice as many as before, or 2^34, so an index grows seldom as it fills.
-    /// An error leaves the index as it was: there is no memory, or the index would have more than 2^34 places.
+    /// places that fit are afterwards at least twice as many as before, or 2^34, so an index grows seldom as it fills;
+    /// they are at most twice as many, or three more than were asked for. An error leaves the index as it was: there is
+    /// no memory, or the index would have more than 2^34 places.
     #[inline(always)]
     pub fn reserve(&mut self, additional: usize) -> Result<(), AllocError>
         ensures room { OnOk result (additional ≤ self.new.room) }
@@ -89,6 +90,8 @@ impl PlaceIndex {
         ensures doubles { OnOk result (self.old.room < additional
             → min (2 * (finite.len self.old.entries + self.old.room))
             (2 ^ 34) ≤ finite.len self.new.entries + self.new.room) }
+        ensures at_most { finite.len self.new.entries + self.new.room
+            ≤ max (2 * (finite.len self.old.entries + self.old.room)) (finite.len self.old.entries + additional + 3) }
     {
         let room = PLACES_PER_GROUP * self.groups.len() - self.len;
         if additional <= room {
@@ -107,12 +110,14 @@ impl PlaceIndex {
         ensures kept { self.old.room ≤ self.new.room }
         ensures doubles { OnOk result (min (2 * (finite.len self.old.entries + self.old.room))
             (2 ^ 34) ≤ finite.len self.new.entries + self.new.room) }
+        ensures at_most { finite.len self.new.entries + self.new.room
+            ≤ max (2 * (finite.len self.old.entries + self.old.room)) (finite.len self.old.entries + additional + 3) }
     {
-        if additional > PLACES_PER_GROUP * MOST_GROUPS - self.len {
+        if additional > PLACES_PER_GROUP * MAX_GROUPS - self.len {
             return Err(AllocError);
         }
         let needed = (self.len + additional).div_ceil(PLACES_PER_GROUP);
-        let count = needed.max((2 * self.groups.len()).min(MOST_GROUPS));
+        let count = needed.max((2 * self.groups.len()).min(MAX_GROUPS));
         let mut groups = empty_groups(self.alloc, count)?;
         move_entries(&self.groups, &mut groups);
         self.groups = groups;

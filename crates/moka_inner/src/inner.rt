@@ -35,7 +35,7 @@ use moka_parts::policy::Instant;
 use moka_parts::record_ref::RecordRef;
 use moka_parts::records::{Operation, ReadOperation, Record};
 use moka_sketch::frequency_sketch::FrequencySketch;
-use moka_store::{Handle, IndexHash, MOST_PLACES, Store, Update};
+use moka_store::{Handle, IndexHash, MAX_PLACES, Store, Update};
 use moka_tickets::outstanding::Outstanding;
 use std::alloc::{AllocError, Global};
 use std::hash::{BuildHasher, Hash};
@@ -404,7 +404,7 @@ impl<K: Eq + Hash, V, S: BuildHasher> Inner<K, V, S> {
     {
         self.store.invariant_holds();
         // A row's place has 32 bits.
-        let place = (place % MOST_PLACES) as u32;
+        let place = (place % MAX_PLACES) as u32;
         let _full = self.reads.try_push_back(QueuedRead::new(read, place));
     }
 

@@ -1,17 +1,14 @@
 //! What look-ups find, and what a hit changes. moka: `sync::base_cache::BaseCache::do_get_with_hash`.
-ghost use Rattle.std.specs.Prelude.{◌≡◌, ◌<◌, ◌++◌, ◌∷◌, [], Bool, true, false, None, Some, MatchResult, length, nat_lt, option_map, if◌then◌else◌};
+ghost use Rattle.std.specs.Prelude.{◌≡◌, ◌<◌, Bool, true, false, None, Some, MatchResult, option_map};
 ghost use Rattle.std.specs.Duration.{as_nanos};
-ghost use Rattle.moka_parts.specs.Calls.{queue_length};
 ghost use Rattle.moka_parts.specs.Copies.{IsEntryCopy};
 ghost use Rattle.moka_parts.specs.Expiry.{time_left};
-ghost use Rattle.moka_parts.specs.Housekeeping.{is_due};
 ghost use Rattle.moka_records.specs.KeyTests.{record_by};
 ghost use Rattle.moka_parts.specs.Surroundings.{IsAskedOnce};
 ghost use Rattle.moka_records.specs.Time.{moment_of};
 ghost use Rattle.moka_parts.specs.Visibility.{has_lapsed as lapsed};
 ghost use Rattle.moka_records.specs.declared.records.ReadOperation.TheVariants as read_operation;
 ghost use Rattle.moka_store.specs.Hashing.{IsIndexHash};
-ghost use Rattle.moka_store.specs.Store.{ChangesRecord, ExpiresAsBefore, IsHandle};
 ghost use Rattle.moka_lookups.specs.Expirations.{NoneExpires, expiring_by};
 ghost use Rattle.moka_lookups.specs.Looks.{ClonesSucceed, Finds, HandsFound, Touches, entry_at, value_of};
 
@@ -29,7 +26,7 @@ use moka_store::{Handle, IndexHash, Store};
 use std::hash::{BuildHasher, Hash};
 use std::time::Duration;
 
-/// What hides records by moments: their times to live and to idle, and invalidations.
+/// What hides records by moments: times to live and to idle, their own expiry, and the invalidation of all.
 #[derive(Drop)]
 pub struct Moments<'a, X> {
     /// The times to live and to idle, and the expiry of single entries.
@@ -90,7 +87,7 @@ where
     Some((handle, found))
 }
 
-/// What a look-up hands out of the record that it finds. Nothing in it is lent by the cache, which the caller may change.
+/// What a look-up hands out of the record that it finds. It borrows nothing of the cache, which the caller may change.
 pub enum Look<T> {
     /// No record is found.
     Missed,

@@ -1,5 +1,5 @@
-//! What look-ups find in a store, what inserts are to make of their keys, why records leave, and snapshots. Nothing here
-//! changes a record.
+//! What look-ups find in a store, what inserts are to make of their keys, why records leave, and snapshots. Nothing
+//! here changes a record.
 #![tactic(auto)]
 
 pub mod causes;

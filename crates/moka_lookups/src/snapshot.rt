@@ -57,8 +57,8 @@ pub struct SnapshotEntry<'a, K, V> {
 }
 
 impl<'a, K: Eq + Hash, V, S: BuildHasher, X, P> Snapshot<'a, K, V, S, X, P> {
-    /// The entries of a store that nothing hides, least recently used first. An entry whose write was not applied yet by
-    /// a run of maintenance stands at the place that it had before, and is left out if it had none.
+    /// The entries of a store that nothing hides, least recently used first. An entry whose write was not applied yet
+    /// by a run of maintenance stands at the place that it had before, and is left out if it had none.
     pub fn new(
         store: &'a Store<K, V, S>,
         moments: Moments<'a, X>,

@@ -1,18 +1,16 @@
 -- Sweeps along the orders of writing and of access, and timers that are due.
 use Rattle.std.specs.Prelude.{◌≡◌, ℕ, ◌+◌, ◌*◌, Bool, true, false, ◌&&◌, ◌||◌, ◌≤◌, ◌⊎◌, List, length, Option, Some, is_some, option_map, slice_get}
 use Rattle.std.specs.Duration.{as_nanos}
-use Rattle.std.specs.FinMap.{get}
 use Rattle.moka_parts.specs.declared.notification.RemovalCause.{RemovalCause}
 use Rattle.moka_records.specs.declared.records.Member.{Member}
 use Rattle.moka_records.specs.declared.records.Record.{Record}
 use Rattle.moka_parts.specs.Exact.{IsWithin}
 use Rattle.moka_parts.specs.Order.{IsAtRestByWrite}
 use Rattle.moka_records.specs.Records.{is_settled}
-use Rattle.moka_parts.specs.Visibility.{is_read_before}
 use Rattle.moka_parts.specs.Maintenance as parts
-use Rattle.moka_parts.specs.Maintenance.{Choice, Removes, MovesToBack, Drops, left_by_choice, is_front, is_over, is_past_read}
+use Rattle.moka_parts.specs.Maintenance.{Choice, Removes, MovesToBack, Drops, left_by_choice, is_front, is_over}
 use Rattle.moka_parts.specs.Bounds.{removed_by}
-use Rattle.moka_parts.specs.Grounds.{Ground, ByTimer, ByWrite, ByRead, BySurplus, LeavesBy, MayTake}
+use Rattle.moka_parts.specs.Grounds.{Ground, ByTimer, ByWrite, ByRead, BySurplus, IsAtRestByRead, LeavesBy, MayTake}
 use Rattle.moka_maintenance.specs.declared.sweep.Tests.{Tests}
 use Rattle.moka_maintenance.specs.declared.sweep.Sweep.{Sweep}
 use Rattle.moka_maintenance.specs.declared.sweep.Sweep.TheVariants.{Written, Read, Surplus}
@@ -60,8 +58,7 @@ module _ {K V : Type 0} (q : Tests) where
   -- the front is none that the sweep removes
   abbrev pub IsAtRest : Sweep → Stock K V → Type 0
   IsAtRest Written c = IsAtRestByWrite (tests_in q) c.contents.records c.written
-  IsAtRest Read c = (n : ℕ) (r : Record K V) → is_front n c.contents.access ≡ true → get c.contents.records n ≡ Some r
-      → (is_past_read (tests_in q) r ≡ false) × (is_read_before q.valid_after r ≡ false)
+  IsAtRest Read c = IsAtRestByRead (tests_in q) c.contents
   IsAtRest Surplus c = IsWithin q.capacity c.contents.access
 
   -- the front to which the sweep has come, if there is one, is settled

@@ -12,9 +12,9 @@ use moka_sketch::frequency_sketch::{FrequencySketch, sketch_capacity};
 use moka_store::Store;
 use std::hash::{BuildHasher, Hash};
 
-/// Makes the sketch's table under TinyLFU, once half of a capacity other than 0 is taken. It has about a word for each
-/// unit of the capacity; with a weigher, for each present entry times the part of the capacity that all of them take.
-/// If memory for so long a table is refused, it has 128 words.
+/// Makes the sketch's table under TinyLFU, once half of a capacity other than 0 is used. Its length is about the
+/// capacity in words; with a weigher, the number of members times the part of the capacity that they use. If memory for
+/// so long a table is refused, it has 128 words.
 pub fn enable_frequency_sketch<K: Eq + Hash, V, S: BuildHasher>(
     store: &Store<K, V, S>,
     sketch: &mut FrequencySketch,

@@ -58,8 +58,8 @@ pub record IsBounded {K V X P W : Type 0} (says : P → K → V → Bool → Typ
   -- it ends with the first reading that is late
   pub ends : is_late terms.limit (take (length course.readings - 1) course.readings) ≡ false
   -- the steps of each pass stand in their order, each with its own grounds and causes, each but that of the timers is
-  -- made of at most a batch of choices, and each ends as it is to; at last predicates are dropped, and what is spared is
-  -- covered by none that is left
+  -- made of at most a batch of choices, and each ends as it is to; at last predicates are dropped, and what is spared
+  -- is covered by none that is left
   pub in_order : (taken dropped : List Choice) × (ch.steps ≡ taken ++ dropped) × AreDrops dropped
       × FollowsGrounds (SomeCovers says s.predicates) (tests_of s terms.now)
       (NoneCovers says (kept_by_choices s.predicates dropped)) (NeverRenewsOnRead read s) (keeps_write_list s.settings)

@@ -96,9 +96,9 @@ module _ {K V : Type 0} (Spared : Record K V → Type 0) where
     pub used : (batch ≤ choices + length (settled_numbers c.records passed))
         ⊎ ((n : ℕ) → is_member n c.access ≡ true → is_listed n passed ≡ true)
 
-  -- where the step ended: a sweep came to rest, or no member is settled, or it made all its choices; by timers no settled
-  -- member is left whose own expiry has come, if those are on time; a scan goes along the order of writing, if that is
-  -- kept, and the sweep by the last write goes by this list
+  -- where the step ended: a sweep came to rest, or no member is settled, or it made all its choices; by timers no
+  -- settled member is left whose own expiry has come, if those are on time; a scan goes along the order of writing, if
+  -- that is kept, and the sweep by the last write goes by this list
   module _ (OnTime : Type 0) (ordered : Bool) (q : Tests) where
     abbrev pub EndsStep : Ground → ℕ → ℕ → Contents K V → List ℕ → Type 0
     EndsStep ByTimer batch choices c write_list = OnTime → (n : ℕ) (r : Record K V) → get c.records n ≡ Some r

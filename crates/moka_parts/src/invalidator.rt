@@ -66,7 +66,7 @@ impl<P> Model for Invalidator<P> {
 }
 
 impl<P> Invalidator<P> {
-    /// No predicate is registered.
+    /// An empty registry.
     pub fn new(alloc: Global) -> Self
         ensures { result ≡ [] }
     {

@@ -12,12 +12,12 @@ pub struct Stats {
     pub hits: u64,
     /// Look-ups that found none.
     pub misses: u64,
-    /// Makers that were called.
+    /// Calls of a maker: of the `init` of `get_with`, `or_insert_with` and their kin.
     pub loads: u64,
 }
 
 impl Stats {
-    /// Nothing was counted.
+    /// Counters that are all 0.
     pub fn new() -> Self
         ensures { result ≡ no_stats }
     {

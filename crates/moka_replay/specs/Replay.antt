@@ -3,7 +3,6 @@ use Rattle.std.specs.Prelude.{◌≡◌, ℕ, Bool, ◌⊎◌, List, [], Result,
 use Rattle.std.specs.List.{list_any}
 use Rattle.std.specs.declared.alloc.Global.{Global}
 use Rattle.std.specs.declared.io.Error.{Error}
-use Rattle.std.specs.declared.io.BufWriter.{BufWriter}
 use Rattle.std.specs.declared.vec.Vec.{Vec}
 use Rattle.std.specs.Io.Buffered.{writer_inner, writer_buffer}
 use Rattle.moka_types.specs.declared.calls.Reply.{Reply}
@@ -17,6 +16,7 @@ use Rattle.moka_script.specs.Script.{ScriptText, script_of, asks_for_memory, tex
 use Rattle.moka_script.specs.Notices.{told_of}
 use Rattle.moka_play.specs.Played.{AreReplies, total_of}
 use Rattle.moka_script.specs.Text.{AreInOrder, replay_text, is_refused_memory}
+use Rattle.moka_replay.specs.declared.Output.{Output}
 
 -- what a reading to the end answers
 abbrev pub Reading : Type 0
@@ -88,9 +88,9 @@ Answers {R} gives (Err error) read = read ≡ Err error
 -- the replay ends over an empty buffer in front of the output, or memory for that buffer was refused and one line says
 -- so
 abbrev pub IsReplayedBuffered : {R W E : Type 0} → (R → Reading → R → Type 0) →
-    (BufWriter W Global → List ℕ → Bool → BufWriter W Global → Type 0) → (E → List ℕ → Bool → E → Type 0) → ℕ →
+    (Output W → List ℕ → Bool → Output W → Type 0) → (E → List ℕ → Bool → E → Type 0) → ℕ →
     Result R Error → W → E → E → Type 0
 IsReplayedBuffered {R} {W} gives prints says status input out err err_after =
-    ((read : Reading) × Answers gives input read × (buffer after : BufWriter W Global) × (writer_inner buffer ≡ out)
-    × (writer_buffer buffer ≡ []) × Ends prints says read status buffer err after err_after)
+    ((read : Reading) × Answers gives input read × (buffer after : Output W) × (writer_inner buffer.0 ≡ out)
+    × (writer_buffer buffer.0 ≡ []) × Ends prints says read status buffer err after err_after)
     ⊎ IsWritten says (failure_text OutOfMemory) (status_of OutOfMemory) status err err_after

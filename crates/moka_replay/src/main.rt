@@ -12,6 +12,7 @@ use moka_script::failure::{Failure, tell};
 use moka_script::streams::{Sink, Source};
 use std::alloc::Global;
 use std::env;
+use std::fmt::Display;
 use std::fs::File;
 use std::io::{self, BufWriter, Write};
 use std::process::ExitCode;
@@ -39,6 +40,25 @@ fn arguments_of<R: Env + AllocGlobal>(rt: &R) -> Result<Vec<String>, Failure> {
     Ok(env::args(rt)?.collect(rt.alloc())?)
 }
 
+/// A buffer in front of a writer, which is left empty by each line that is taken.
+#[derive(Drop)]
+struct Output<W: Write + Drop>(BufWriter<W>);
+
+impl<W: Write + Drop> Sink for Output<W> {
+    ghost use Rattle.std.specs.Prelude.{◌≡◌, ◌++◌, [], codes, true};
+    ghost use Rattle.std.specs.Io.Buffered.{writer_buffer, writer_contents};
+    ghost use Rattle.std.specs.Io.KnownBytes.{Appends};
+
+    ghost takes = { λ before line taken after. taken ≡ true
+        → Appends (writer_contents W.contents before.0) (writer_contents W.contents after.0) (line ++ codes "\n")
+        × (writer_buffer after.0 ≡ []) };
+
+    fn write_line<D: Display + Drop>(&mut self, line: D) -> io::Result<()> {
+        writeln!(self.0, "{line}")?;
+        self.0.flush()
+    }
+}
+
 /// Replays a script over a buffer in front of a writer. If memory for the buffer is refused, one line says so.
 fn replay_buffered<R: Source + Drop, W: Write + Drop, E: Sink>(
     alloc: Global,
@@ -46,13 +66,14 @@ fn replay_buffered<R: Source + Drop, W: Write + Drop, E: Sink>(
     out: W,
     err: &mut E,
 ) -> u8
-    ensures { IsReplayedBuffered R.gives ⟦<BufWriter<W> as Sink>⟧.takes E.takes result input out err.old err.new }
+    ensures { IsReplayedBuffered R.gives ⟦<Output<W> as Sink>⟧.takes E.takes result input out err.old err.new }
 {
-    let Ok(mut buffer) = BufWriter::new(alloc, out) else {
+    let Ok(buffer) = BufWriter::new(alloc, out) else {
         return tell(err, Failure::OutOfMemory);
     };
-    let status = replay_opened(alloc, input, &mut buffer, err);
+    let mut output = Output(buffer);
+    let status = replay_opened(alloc, input, &mut output, err);
     // What a refused write left is let go, and not written after all.
-    let (_out, _unwritten) = buffer.into_parts();
+    let (_out, _unwritten) = output.0.into_parts();
     status
 }

@@ -8,8 +8,8 @@ ghost use Rattle.moka_records.specs.Hashing.{key_hash};
 use std::hash::{BuildHasher, Hash};
 use std::marker::Model;
 
-/// Names the segment of each key, of a number of segments that never changes: by the upper half of the key's hash.
-/// An index goes by a product of the whole hash, so the keys of one segment still spread over its index.
+/// Names the segment of each key by the upper half of the key's hash; the number of segments never changes. A segment's
+/// own index goes by a product of the whole hash, so the segment's keys still spread over it.
 pub struct Router<S> {
     hasher: S,
     count: u32,
@@ -59,7 +59,7 @@ impl<S> Router<S> {
         &self.hasher
     }
 
-    /// The part of `capacity` that is the segment's at `index`. The parts of all segments sum to it
+    /// The share of `capacity` of the segment at `index`. The shares of all segments sum to `capacity`
     /// (`moka_segment_laws::laws::shares_sum`).
     #[tactic(auto, unfolding(crate::specs::Routing::share))]
     pub fn share(&self, capacity: u64, index: u32) -> u64
@@ -70,7 +70,7 @@ impl<S> Router<S> {
         capacity / count + u64::from(has_more)
     }
 
-    /// The segment of a key whose hash by this hasher is `hash`.
+    /// The index of the segment of a key whose hash, by this router's hasher, is `hash`.
     pub fn segment_of_hash(&self, hash: u64) -> usize
         ensures place { result ≡ segment_of self.now.count hash }
         ensures within { result < self.now.count }
@@ -80,7 +80,7 @@ impl<S> Router<S> {
 }
 
 impl<S: BuildHasher> Router<S> {
-    /// The segment of a key.
+    /// The index of the segment of a key.
     pub fn segment_of<K: Hash>(&self, key: &K) -> usize
         ensures place { result ≡ segment_of self.now.count
             (key_hash S.BuildHasher S.Hasher.Hasher self.now.hasher (K.hash_input key.now)) }
@@ -90,7 +90,7 @@ impl<S: BuildHasher> Router<S> {
     }
 }
 
-/// The one of a router's segments that a key belongs to, to be written. moka: `select`.
+/// The segment that a key belongs to by the router, borrowed mutably. moka: `select`.
 pub fn select_mut<'a, T, S: BuildHasher, K: Hash>(
     segments: &'a mut Vec<T>,
     router: &Router<S>,

@@ -7,10 +7,10 @@ ghost use Rattle.moka_script.specs.Lex.{texts, alone, key_at, lone_number, words
 use moka_parts::policy::Instant;
 
 /// A number has at most twenty digits.
-const MOST_DIGITS: usize = 20;
+const MAX_DIGITS: usize = 20;
 
 /// One word more than the longest line with a meaning has.
-pub const MOST_WORDS: usize = 6;
+pub const MAX_WORDS: usize = 6;
 
 /// Tells whether each byte may stand in a line.
 pub fn is_printable(line: &[u8]) -> bool
@@ -30,7 +30,7 @@ fn has_only_digits(word: &str) -> bool
 fn is_numeral(word: &str) -> bool
     ensures { result ≡ is_numeral word.now }
 {
-    !word.is_empty() && word.len() <= MOST_DIGITS && has_only_digits(word)
+    !word.is_empty() && word.len() <= MAX_DIGITS && has_only_digits(word)
 }
 
 /// The number that a word says, if it fits in 64 bits.
@@ -82,14 +82,14 @@ pub fn is_word(word: &&str) -> bool
 }
 
 /// What stands between the spaces of a text: its first words, and how many of these there are.
-pub fn first_words(text: &str) -> ([&str; MOST_WORDS], usize)
-    ensures words { texts (take result.1 result.0) ≡ take MOST_WORDS (words_of text.now) }
-    ensures fits { result.1 ≤ MOST_WORDS }
+pub fn first_words(text: &str) -> ([&str; MAX_WORDS], usize)
+    ensures words { texts (take result.1 result.0) ≡ take MAX_WORDS (words_of text.now) }
+    ensures fits { result.1 ≤ MAX_WORDS }
 {
-    let mut words = [""; MOST_WORDS];
+    let mut words = [""; MAX_WORDS];
     let mut count = 0;
     let all = text.split(' ').filter(is_word);
-    for word in all.take(MOST_WORDS) {
+    for word in all.take(MAX_WORDS) {
         words[count] = word;
         count += 1;
     }

@@ -14,8 +14,8 @@ use std::marker::Model;
 /// The key, the value and the cause of a removal.
 pub type Notice = (u32, Word, RemovalCause);
 
-/// A listener that keeps what it is told, in room that is made before the first call. Seen as the notices in order, and
-/// how many have room.
+/// A listener that keeps what it is notified of, in room that is made before the first call. Seen as the notices in
+/// order, and how many have room.
 #[derive(Drop)]
 pub struct Notices {
     told: Vec<Notice>,
@@ -41,7 +41,7 @@ impl Notices {
         Ok(Notices { told })
     }
 
-    /// What was told, in order.
+    /// What it was notified of, in order.
     pub fn as_slice(&self) -> &[Notice]
         ensures { result.now ≡ self.now.told }
     {
@@ -61,8 +61,8 @@ impl Listener<u32, Word> for Notices {
     }
 }
 
-/// How many notices the calls may cause at most: each insert brings one value that may leave, and a removal may be
-/// told.
+/// How many notices the calls may cause at most: each insert brings one value that may leave, and the listener may be
+/// notified of a removal.
 pub fn room_for(calls: &[ScriptCall]) -> usize
     ensures { result ≡ room_of calls.now }
 {

@@ -1,13 +1,14 @@
 //! The segmented cache, and its calls by key. moka: `sync::segment`.
-ghost use Rattle.std.specs.Prelude.{◌≡◌, ◌<◌, false, length, IfErr, IsOk, option_map};
+ghost use Rattle.std.specs.Prelude.{◌≡◌, ◌<◌, false, true, length, IfErr, IsOk, option_map, ⊤};
 ghost use Rattle.moka_parts.specs.Calls.{ContainsStep};
+ghost use Rattle.moka_parts.specs.State.{is_disabled};
 ghost use Rattle.moka_records.specs.Hashing.{key_hash};
 ghost use Rattle.moka_records.specs.Records.{record_of_key};
 ghost use Rattle.moka_calls.specs.Synchronous.{meaning_of, removed, invalidated, taken_out};
 ghost use Rattle.moka_engine.specs.Looks.{CanHandOutValue};
 ghost use Rattle.moka_router.specs.Routing.{segment_of};
 ghost use Rattle.moka_segments.specs.Segmented.{Holds, HoldsIfThere, IsAt, Steps as StepsIn};
-ghost use Rattle.moka_cache.specs.Keyed.{CanNotify, Inserts, Gets, IsOfInsert, Removes, GetsWith, GetsWithIfMade, GetsWithIfNoError};
+ghost use Rattle.moka_cache.specs.Keyed.{CanNotify, Inserts, Gets, IsOfClone, IsOfInsert, Removes, GetsWith, GetsWithIfMade, GetsWithIfNoError};
 
 use moka_cache::{Cache, GetWithRefused, NotTold};
 use moka_engine::config::DefaultHasher;
@@ -108,7 +109,7 @@ impl<
         &self.router
     }
 
-    /// The segment at an index.
+    /// The segment at `index`, which must be less than the number of segments (`router().count()`).
     pub fn segment(&self, index: usize) -> &Cache<K, V, X, L, P, W, S>
         requires { index < length self.now.segments }
         ensures { IsAt self.now.segments index result.now }
@@ -116,8 +117,8 @@ impl<
         &self.segments[index]
     }
 
-    /// The segment at an index, for a call that this cache has none of, as those of entries, for many keys, by a test of
-    /// the key, snapshots and a new capacity:
+    /// The segment at `index`, less than the number of segments, for calls that this cache does not have: entry calls,
+    /// those for many keys or by a test of the key, snapshots, `set_max_capacity`:
     ///
     /// ```text
     /// let own = cache.segment_of(&key);
@@ -154,7 +155,7 @@ impl<
         &self.segments[0]
     }
 
-    /// The segment of a key.
+    /// The index of the segment that a key belongs to.
     pub fn segment_of(&self, key: &K) -> usize
         ensures place { result ≡ segment_of self.now.routing.count
             (key_hash S.BuildHasher S.Hasher.Hasher self.now.routing.hasher (K.hash_input key.now)) }
@@ -174,10 +175,10 @@ impl<
         self.segment(index).contains_key(key, now)
     }
 
-    /// Puts a value under a key at the moment `now`. A segment of capacity 0 drops both.
+    /// Puts a value under a key at the moment `now`, in place of one that is there. A segment of capacity 0 drops both.
     ///
     /// # Errors
-    /// `NumbersUsedUp` and `OutOfMemory`, with key and value; nothing has changed.
+    /// `NumbersUsedUp` if too few tickets are left, or `OutOfMemory`. Key and value come back; nothing has changed.
     pub fn insert<C: Clock>(
         &mut self,
         key: K,
@@ -289,8 +290,8 @@ impl<
         self.own_segment(key).invalidate(key, now, clock)
     }
 
-    /// A clone of a key's value, if the key is there and visible at the moment `now`, and else the value that `init`
-    /// makes, which is inserted; a clone of it is handed out. `init` is called only if the key is not there.
+    /// A clone of a key's value, if the key is there and visible at the moment `now`. Otherwise `init` is called, and
+    /// the value that it returns is inserted and a clone of it handed out.
     ///
     /// # Errors
     /// As the synchronous cache's call of this name.
@@ -318,11 +319,15 @@ impl<
             (key_hash S.BuildHasher S.Hasher.Hasher self.old.routing.hasher (K.hash_input key)))
             (λ old new. CanHandOutValue V.is_infallible (record_of_key K.eq old.engine.state.records key)
             → IfErr result IsOfInsert) self.old self.new }
+        ensures disabled { StepsIn (segment_of self.old.routing.count
+            (key_hash S.BuildHasher S.Hasher.Hasher self.old.routing.hasher (K.hash_input key)))
+            (λ old new. is_disabled old.engine.state.capacity ≡ true
+            → IfErr result (IsOfClone (λ _. ⊤) V.is_infallible)) self.old self.new }
     {
         self.own_segment(&key).get_with(key, init, now, clock)
     }
 
-    /// As `get_with`, for a maker that may decline: then nothing is inserted, and `None` is answered.
+    /// As `get_with`, for an `init` that may return `None`: then nothing is inserted, and `None` is returned.
     ///
     /// # Errors
     /// As `get_with`.
@@ -350,12 +355,16 @@ impl<
             (key_hash S.BuildHasher S.Hasher.Hasher self.old.routing.hasher (K.hash_input key)))
             (λ old new. CanHandOutValue V.is_infallible (record_of_key K.eq old.engine.state.records key)
             → IfErr result IsOfInsert) self.old self.new }
+        ensures disabled { StepsIn (segment_of self.old.routing.count
+            (key_hash S.BuildHasher S.Hasher.Hasher self.old.routing.hasher (K.hash_input key)))
+            (λ old new. is_disabled old.engine.state.capacity ≡ true
+            → IfErr result (IsOfClone (λ _. ⊤) V.is_infallible)) self.old self.new }
     {
         self.own_segment(&key)
             .optionally_get_with(key, init, now, clock)
     }
 
-    /// As `get_with`, for a maker that may fail: then nothing is inserted, and its error is answered.
+    /// As `get_with`, for an `init` that may fail: then nothing is inserted, and its error is returned.
     ///
     /// # Errors
     /// The outer error as `get_with`; the inner one is the maker's.
@@ -383,6 +392,10 @@ impl<
             (key_hash S.BuildHasher S.Hasher.Hasher self.old.routing.hasher (K.hash_input key)))
             (λ old new. CanHandOutValue V.is_infallible (record_of_key K.eq old.engine.state.records key)
             → IfErr result IsOfInsert) self.old self.new }
+        ensures disabled { StepsIn (segment_of self.old.routing.count
+            (key_hash S.BuildHasher S.Hasher.Hasher self.old.routing.hasher (K.hash_input key)))
+            (λ old new. is_disabled old.engine.state.capacity ≡ true
+            → IfErr result (IsOfClone (λ _. ⊤) V.is_infallible)) self.old self.new }
     {
         self.own_segment(&key).try_get_with(key, init, now, clock)
     }

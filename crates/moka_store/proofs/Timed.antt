@@ -29,6 +29,18 @@ use Rattle.moka_records.specs.declared.records.Record.{Record}
 pub none-after : (before : Option ℕ) (place : ℕ) (at : Option ℕ) (other : ℕ) → get (empty {X = Timer} {R = nat_cmp}) other ≡ timer_after empty before None place at other
 none-after before place at other = elim (is_slot before other) as (λ b. get (empty {X = Timer} {R = nat_cmp}) other ≡ cond b None (get (empty {X = Timer} {R = nat_cmp}) other)) [ true ↦ get-empty nat_cmp other | false ↦ refl ]
 
+-- nor has a number one
+pub none-timed : {K V : Type 0} (rows : List (Option (Row (Record K V)))) (timers : FinMap nat_cmp Timer) → timers ≡ empty → (n : ℕ) → get (timers_of timers rows) n ≡ None
+unfolding timers_of
+none-timed {K} {V} rows timers none n = elim (option-cases (get (timers_of timers rows) n)) as (λ _. get (timers_of timers rows) n ≡ None) [
+  | inl e ↦ e
+  | inr at ↦
+      let v = map-found (λ _ row. moment_in timers row) rows n at.0 at.1 in
+      let slot = read-of (λ slot. option_map (λ (t : Timer). t.at) (get timers slot)) v.row.timer at.0 v.value_is in
+      let gone = ap (option_map (λ (t : Timer). t.at)) (ap (λ m. get m slot.0) none ∙ get-empty nat_cmp slot.0) in
+      cc
+]
+
 -- ---- rows change, and no timer does
 
 -- a moment stays under its number, where the timers stay at their places, and the rows that have one keep their numbers

@@ -10,12 +10,12 @@ ghost use Rattle.moka_store.specs.declared.store.Handle.{Handle};
 ghost use Rattle.moka_records.specs.declared.records.Record.{Record};
 ghost use Rattle.moka_store.specs.Hashing.{IsIndexHash};
 ghost use Rattle.moka_table.specs.Updates.{updated};
-ghost use Rattle.moka_records.specs.Records.{IsListOf, member, counted_of, record_of_key, with_record, without_member, is_member, is_settled, numbers_of, to_back, total_weight, is_listed, without_number, number_to_back, entered_by};
+ghost use Rattle.moka_records.specs.Records.{IsListOf, member, counted_of, record_of_key, with_record, without_member, is_member, numbers_of, to_back, total_weight, is_listed, without_number, number_to_back, entered_by};
 ghost use Rattle.moka_records.specs.Time.{moment_of};
 
 use crate::timers::Timers;
 use crate::write_list::WriteList;
-pub use changes::MOST_PLACES;
+pub use changes::MAX_PLACES;
 pub use hashing::IndexHash;
 use moka_index::PlaceIndex;
 use moka_records::instant::Instant;
@@ -198,7 +198,7 @@ impl<K: Eq + Hash, V, S: BuildHasher> Store<K, V, S> {
         self.table.number(handle.place) == Some(handle.number)
     }
 
-    /// A new record of a key that has none, under the key's hash. It takes no memory.
+    /// Puts in a new record of a key that has none, under the key's hash. It takes no memory.
     #[inline(always)]
     pub fn insert_new(&mut self, stored: Record<K, V>, hash: IndexHash) -> Handle
         requires room { 0 < self.old.room }
@@ -225,7 +225,7 @@ impl<K: Eq + Hash, V, S: BuildHasher> Store<K, V, S> {
         Handle { number, place }
     }
 
-    /// A new value for the record at this handle, with what comes with it, as its next generation. The answer is the
+    /// Gives the record at this handle a new value, with what comes with it, as its next generation, and returns the
     /// old value.
     #[inline(always)]
     pub fn update(&mut self, handle: Handle, update: Update<V>) -> V
@@ -241,7 +241,7 @@ impl<K: Eq + Hash, V, S: BuildHasher> Store<K, V, S> {
         self.table.update(handle.place, update)
     }
 
-    /// The record at this handle was read at this moment, and expires then: as before, unless the read renewed it.
+    /// Notes when the record at this handle was read and, if the read renewed its expiry, when it expires now.
     #[inline(always)]
     pub fn touch(
         &mut self,
@@ -261,7 +261,7 @@ impl<K: Eq + Hash, V, S: BuildHasher> Store<K, V, S> {
         self.table.touch(handle.place, read, expires, is_renewed);
     }
 
-    /// The operation of this generation was applied to the record at this handle.
+    /// Notes that the operation of this generation was applied to the record at this handle.
     #[inline(always)]
     pub fn set_applied(&mut self, handle: Handle, generation: u64)
         requires { IsHandle self.old handle }
@@ -286,7 +286,7 @@ impl<K: Eq + Hash, V, S: BuildHasher> Store<K, V, S> {
         IndexHash::of(self.hash(found.key()))
     }
 
-    /// The record at this handle leaves the map, where it is under the hash of its key, and its number stays.
+    /// Takes the record at this handle out of the map, where it is under the hash of its key; its number stays.
     #[inline(always)]
     pub fn take_record(&mut self, handle: Handle, hash: IndexHash) -> Record<K, V>
         requires handle { IsHandle self.old handle }
@@ -325,16 +325,7 @@ impl<K: Eq + Hash, V, S: BuildHasher> Store<K, V, S> {
         self.counted(handle).is_some()
     }
 
-    /// Whether the number at this handle is settled: its record is in the map and saw its newest operation.
-    #[inline(always)]
-    pub fn is_settled(&self, handle: Handle) -> bool
-        requires { IsPlaced self.now handle }
-        ensures { result ≡ is_settled self.now.records handle.number }
-    {
-        matches!(self.find(handle), Some(found) if found.is_settled())
-    }
-
-    /// The number at this handle comes to the back of both orders, with this weight. It takes no memory.
+    /// Admits the number at this handle, with this weight, at the back of both orders. It takes no memory.
     #[inline(always)]
     pub fn admit(&mut self, handle: Handle, weight: u32)
         requires placed { IsPlaced self.old handle }
@@ -422,7 +413,7 @@ impl<K: Eq + Hash, V, S: BuildHasher> Store<K, V, S> {
         self.weight = self.weight - before.counted as u128 + weight as u128;
     }
 
-    /// The number at this handle leaves both orders, and has no timer any more. A cursor there goes on.
+    /// Takes the number at this handle out of both orders, with its timer. A cursor there goes on.
     #[inline(always)]
     pub fn leave(&mut self, handle: Handle)
         requires placed { IsPlaced self.old handle }
@@ -453,14 +444,42 @@ impl<K: Eq + Hash, V, S: BuildHasher> Store<K, V, S> {
         requires { IsPlaced self.old handle }
         ensures { self.new ≡ record self.old { timers = finite.remove self.old.timers handle.number } }
     {
+        if self.timers.are_kept() {
+            self.clear_kept_timer(handle);
+        }
+    }
+
+    // The same where timers are kept.
+    #[inline(always)]
+    fn clear_kept_timer(&mut self, handle: Handle)
+        requires { IsPlaced self.old handle }
+        ensures { self.new ≡ record self.old { timers = finite.remove self.old.timers handle.number } }
+    {
         let timer = self.table.set_timer(handle.place, None);
         let _none = self.timers.set(timer, handle.place as u64, None);
     }
 
-    /// The timer of the number at this handle, if timers are kept, stands at its record's expiry, or is taken out
-    /// if there is none. It takes no memory.
+    /// Sets the timer of the number at this handle, if timers are kept, to its record's expiry, or takes it out if the
+    /// record has none. It takes no memory.
     #[inline(always)]
     pub fn set_timer(&mut self, handle: Handle)
+        requires handle { IsHandle self.old handle }
+        requires member { IsSome (counted_of handle.number self.old.access) }
+        ensures step { (r : Record K V) → finite.get self.old.records handle.number ≡ Some r →
+            self.new ≡ record self.old {
+              timers = if self.old.timed
+                  then with_timer self.old.timers handle.number (moment_of r.expires) else self.old.timers;
+            } }
+        ensures rest { self.new ≡ record self.old { timers = self.new.timers } }
+    {
+        if self.timers.are_kept() {
+            self.set_kept_timer(handle);
+        }
+    }
+
+    // The same where timers are kept. It stands out of line, so that a store without timers has less code.
+    #[inline(never)]
+    fn set_kept_timer(&mut self, handle: Handle)
         requires handle { IsHandle self.old handle }
         requires member { IsSome (counted_of handle.number self.old.access) }
         ensures step { (r : Record K V) → finite.get self.old.records handle.number ≡ Some r →
@@ -475,8 +494,8 @@ impl<K: Eq + Hash, V, S: BuildHasher> Store<K, V, S> {
         let _before = self.table.set_timer(handle.place, timer);
     }
 
-    /// Takes a timer out whose moment is at or before `now`. The answer is whose it was, and None exactly if there
-    /// is none.
+    /// Takes out a timer whose moment is at or before `now`, and returns the handle that it was for; `None` exactly if
+    /// there is no such timer.
     pub fn due(&mut self, now: Instant) -> Option<Handle>
         ensures due { IfSome result (λ h. (t : ℕ) × (finite.get self.old.timers h.number ≡ Some t) × (t ≤ now.0)) }
         ensures placed { IfSome result (λ h. IsPlaced self.new h) }
@@ -513,7 +532,7 @@ impl<K: Eq + Hash, V, S: BuildHasher> Store<K, V, S> {
         Some(changes::handle_at(&self.table, place as usize))
     }
 
-    /// The member at which a scan of the order of writing goes on; none is the front.
+    /// The member at which a scan of the order of writing goes on; `None` stands for the front.
     pub fn cursor(&self) -> Option<Handle>
         ensures ordered { IfSome result (IsOrdered self.now) }
         ensures cursor { option_map (λ h. h.number) result ≡ self.now.cursor }

@@ -38,7 +38,7 @@ impl Model for Timers {
 }
 
 impl Timers {
-    /// No timers, which are kept or not.
+    /// An empty set of timers; none is ever kept unless `timed` is set.
     pub fn new(alloc: Global, timed: bool) -> Result<Self, AllocError>
         ensures { IfOk result (λ t. t ≡ record { timers = empty; most = t.most; timed = timed }) }
     {
@@ -48,6 +48,15 @@ impl Timers {
             None
         };
         Ok(Timers { wheel })
+    }
+
+    /// Whether timers are kept. If not, there is none.
+    #[inline(always)]
+    pub fn are_kept(&self) -> bool
+        ensures kept { result ≡ self.now.timed }
+        ensures none { result ≡ false → self.now.timers ≡ empty }
+    {
+        self.wheel.is_some()
     }
 
     /// Makes room for so many timers in all, and changes nothing if there is room.
@@ -83,7 +92,7 @@ impl Timers {
         set_in(self.wheel.as_mut()?, before, place, at)
     }
 
-    /// Takes a timer out whose moment is at or before `now`. The answer is None exactly if there is none.
+    /// Takes out a timer whose moment is at or before `now`, and returns it; `None` exactly if there is none.
     pub fn due(&mut self, now: Instant) -> Option<Due>
         ensures due { IfSome result (λ d. get self.old.timers d.slot ≡ Some (record { number = d.number; at = d.at })) }
         ensures late { IfSome result (λ d. d.at ≤ now.0) }

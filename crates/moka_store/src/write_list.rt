@@ -40,7 +40,7 @@ impl Model for WriteList {
 }
 
 impl WriteList {
-    /// An empty list, which is kept or not.
+    /// An empty list; no place is ever kept unless `ordered` is set.
     pub fn new(alloc: Global, ordered: bool) -> Result<Self, AllocError>
         ensures { IfOk result (λ w. w ≡ record { nodes = []; cursor = None; most = w.most; ordered = ordered }) }
     {

@@ -1,5 +1,5 @@
 //! An order of values as linked nodes in one table.
-ghost use Rattle.std.specs.Prelude.{◌≡◌, ◌≢◌, ◌+◌, ◌^◌, ◌<◌, ◌≤◌, ℕ, [], ◌∷◌, ◌++◌, length, ◌↔◌, OnErr, OnOk, IfOk, IsOk, IfSome, IsSome, IsNone, None, Some, nat_eq, slice_get, vec_len, if◌then◌else◌};
+ghost use Rattle.std.specs.Prelude.{◌≡◌, ◌≢◌, ◌+◌, ◌-◌, ◌*◌, ◌^◌, ◌<◌, ◌≤◌, ℕ, min, [], ◌∷◌, ◌++◌, length, ◌↔◌, OnErr, OnOk, IfOk, IsOk, IfSome, IsSome, IsNone, None, Some, nat_eq, slice_get, vec_len, if◌then◌else◌};
 ghost use Rattle.std.specs.Map.{lookup, remove_entry, keys_of};
 ghost use Rattle.std.specs.List.{IsDistinct};
 ghost use Rattle.moka_links.specs.Links.{KeepsCapacity};
@@ -11,7 +11,7 @@ use std::alloc::{AllocError, Global};
 use std::marker::Model;
 
 // A slot is a `u32`.
-const MOST_NODES: usize = 1 << 32;
+const MAX_NODES: usize = 1 << 32;
 
 // The slot where the ring begins and ends.
 const SENTINEL: u32 = 0;
@@ -155,8 +155,10 @@ impl<T: Copy> OrderList<T> {
         self.len == 0
     }
 
-    /// Makes room for `additional` more values, and changes nothing if there is room. An error leaves the list as it
-    /// was: there is no memory, or the list would be longer than its slots can tell.
+    /// Makes room for `additional` more values, and changes nothing if there is room. If there is too little, the
+    /// values that fit are afterwards at least twice as many as before, or 2^32 - 1, so a list grows seldom as it
+    /// fills. An error leaves the list as it was: there is no memory, or the list would be longer than its slots can
+    /// tell.
     #[inline(always)]
     pub fn reserve(&mut self, additional: usize) -> Result<(), AllocError>
         ensures room { OnOk result (additional ≤ self.new.room) }
@@ -165,16 +167,21 @@ impl<T: Copy> OrderList<T> {
         ensures err { OnErr result (self.new ≡ self.old) }
         ensures members { self.new.members ≡ self.old.members }
         ensures kept { self.old.room ≤ self.new.room }
+        ensures doubles { OnOk result (self.old.room < additional
+            → min (2 * (length self.old.members + self.old.room)) (2 ^ 32 - 1)
+            ≤ length self.new.members + self.new.room) }
     {
-        let room = self.nodes.capacity().min(MOST_NODES) - 1 - self.len;
+        let room = self.nodes.capacity().min(MAX_NODES) - 1 - self.len;
         if additional <= room {
             return Ok(());
         }
-        if additional > MOST_NODES - 1 - self.len {
+        if additional > MAX_NODES - 1 - self.len {
             return Err(AllocError);
         }
-        let more = additional - (self.nodes.len() - 1 - self.len);
-        self.nodes.reserve(more)
+        let missing = additional - (self.nodes.len() - 1 - self.len);
+        // A vector promises no more than it is asked for.
+        let twice = 2 * self.nodes.capacity() - self.nodes.len();
+        self.nodes.reserve(missing.max(twice))
     }
 
     /// Puts a value behind all others, if there is room. The answer is its slot, which is not 0, and which no

@@ -1,5 +1,5 @@
 //! Rows for the cache's entries, each at a place that the table picks.
-ghost use Rattle.std.specs.Prelude.{◌≡◌, ◌≢◌, ◌+◌, ◌^◌, ◌<◌, ◌≤◌, [], false, length, OnOk, IsOk, IfSome, IsSome, None, Some, is_some, count_by, option_copied};
+ghost use Rattle.std.specs.Prelude.{◌≡◌, ◌≢◌, ◌+◌, ◌*◌, ◌^◌, ◌<◌, ◌≤◌, min, [], false, length, OnOk, IsOk, IfSome, IsSome, None, Some, is_some, count_by, option_copied};
 ghost use Rattle.std.specs.FinMap as map;
 ghost use Rattle.std.specs.Option.{option_map, option_and_then};
 ghost use Rattle.moka_records.specs.declared.records.Record.{Record};
@@ -94,7 +94,7 @@ impl<K, V> RecordTable<K, V> {
         self.rows.len()
     }
 
-    /// How many rows fit with no memory, those that there are among them. Every place is less.
+    /// How many rows fit without asking for memory, present ones included. Every place is less than this.
     pub fn capacity(&self) -> usize
         ensures value { result ≡ count_by is_some self.now.rows + self.now.room }
         ensures places { length self.now.rows ≤ result }
@@ -109,21 +109,27 @@ impl<K, V> RecordTable<K, V> {
         self.cold.len()
     }
 
-    /// Makes room for `additional` more rows, and changes nothing if there is room.
+    /// Makes room for `additional` more rows, and changes nothing if there is room. If there is too little, the rows
+    /// that fit are afterwards at least twice as many as before, or `usize::MAX`, so a table grows seldom as it fills.
     pub fn reserve(&mut self, additional: usize) -> Result<(), AllocError>
         ensures room { OnOk result (additional ≤ self.new.room) }
         ensures succeeds { additional ≤ self.old.room → IsOk result }
         ensures enough { additional ≤ self.old.room → self.new ≡ self.old }
         ensures rows { self.new.rows ≡ self.old.rows }
         ensures kept { self.old.room ≤ self.new.room }
+        ensures doubles { OnOk result (self.old.room < additional
+            → min (2 * (count_by is_some self.old.rows + self.old.room)) usize.MAX
+            ≤ count_by is_some self.new.rows + self.new.room) }
     {
         let rows = self.rows.len();
         if self.fit - rows >= additional {
             return Ok(());
         }
-        let more = additional - (self.cold.len() - rows);
+        // A vector promises no more than it is asked for.
+        let wanted = additional.max(self.fit.saturating_mul(2) - rows);
+        let more = wanted - (self.cold.len() - rows);
         self.cold.reserve(more)?;
-        self.rows.reserve(additional)?;
+        self.rows.reserve(wanted)?;
         self.fit = self.rows.capacity().min(self.cold.capacity());
         Ok(())
     }
@@ -205,7 +211,7 @@ impl<K, V> RecordTable<K, V> {
         if own == number { Some(found) } else { None }
     }
 
-    /// The record at this place was read at this moment, and expires then: as before, unless the read renewed it.
+    /// Notes when the record at this place was read and, if the read renewed its expiry, when it expires now.
     #[inline(always)]
     pub fn touch(&mut self, place: usize, read: Instant, expires: Option<Instant>, is_renewed: bool)
         requires stored { IsSome (stored_at self.old.rows place) }
@@ -221,7 +227,7 @@ impl<K, V> RecordTable<K, V> {
         }
     }
 
-    /// A new value, with what comes with it, for the record at this place. The answer is the old value.
+    /// Gives the record at this place a new value, with what comes with it, and returns the old value.
     pub fn update(&mut self, place: usize, update: Update<V>) -> V
         requires stored { IsSome (stored_at self.old.rows place) }
         requires generation { (r : Record K V) → stored_at self.old.rows place ≡ Some r → r.generation + 1 < 2 ^ 64 }
@@ -236,7 +242,7 @@ impl<K, V> RecordTable<K, V> {
         self.rows.replace_value(place, update)
     }
 
-    /// The generation that was applied to the record at this place.
+    /// Notes the generation that was applied to the record at this place.
     #[inline(always)]
     pub fn set_applied(&mut self, place: usize, generation: u64)
         requires { IsSome (stored_at self.old.rows place) }
@@ -291,7 +297,7 @@ impl<K, V> RecordTable<K, V> {
         Some(self.membership(place)?.counted)
     }
 
-    /// Another weight for the member at this place.
+    /// Gives the member at this place another weight.
     #[inline(always)]
     pub fn set_counted(&mut self, place: usize, weight: u32)
         requires { IsSome (membership_at self.old.rows place) }
@@ -306,7 +312,7 @@ impl<K, V> RecordTable<K, V> {
         self.cold[place].counted = weight;
     }
 
-    /// The row at this place becomes a member, or gets another membership. The answer is the one that it had.
+    /// Makes the row at this place a member, or gives it another membership, and returns the one that it had.
     #[inline(always)]
     pub fn set_membership(&mut self, place: usize, membership: Membership) -> Option<Membership>
         requires row { IsSome (row_at self.old.rows place) }
@@ -346,7 +352,7 @@ impl<K, V> RecordTable<K, V> {
         membership::counted_as(counted, old)
     }
 
-    /// Another timer, or none, for the row at this place. The answer is the one that it had.
+    /// Gives the row at this place another timer, or none, and returns the one that it had.
     #[inline(always)]
     pub fn set_timer(&mut self, place: usize, timer: Option<u32>) -> Option<u32>
         requires row { IsSome (row_at self.old.rows place) }

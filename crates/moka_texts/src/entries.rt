@@ -156,7 +156,7 @@ const NOTHING: &[Row] = &[
     GONE,
 ];
 
-/// What is computed in turn of a text that is not there at first: what is to be done, and the value that is there before.
+/// What is computed in turn of a text that is not there at first: what is to be done, and the value that was there.
 const COMPUTED: [(Ask, Option<&str>); 6] = [
     (Ask::Leave, None),
     (Ask::Put, None),

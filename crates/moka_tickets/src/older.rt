@@ -1,5 +1,5 @@
 //! Items under rising tickets, in a table that grows with them, and in a list if it cannot grow.
-ghost use Rattle.std.specs.Prelude.{◌≡◌, ◌==◌, ◌+◌, ◌<◌, ◌≤◌, ◌↔◌, ℕ, not, filter, find, fold, OnOk, IfOk, IfSome, IsOk, IsSome, IsNone, None, Some, option_map, vec_len, vec_capacity};
+ghost use Rattle.std.specs.Prelude.{◌≡◌, ◌==◌, ◌+◌, ◌*◌, ◌<◌, ◌≤◌, ◌↔◌, ℕ, min, not, filter, find, fold, OnOk, IfOk, IfSome, IsOk, IsSome, IsNone, None, Some, option_map, vec_len, vec_capacity};
 ghost use Rattle.std.specs.FinMap as map;
 ghost use Rattle.moka_tickets.specs.Kept.{lesser};
 
@@ -67,8 +67,9 @@ impl<T: Copy> Older<T> {
         self.table.len() + self.kept.len()
     }
 
-    /// Keeps room for `additional` more items, and changes nothing if there is room. An error takes neither items
-    /// nor room away.
+    /// Keeps room for `additional` more items, and changes nothing if there is room. If there is too little, the room
+    /// is afterwards at least twice what it was, or `usize::MAX`, so it grows seldom. An error takes neither items nor
+    /// room away.
     #[inline(always)]
     pub fn reserve(&mut self, additional: usize) -> Result<(), AllocError>
         ensures room { OnOk result (additional ≤ self.new.room) }
@@ -76,11 +77,14 @@ impl<T: Copy> Older<T> {
         ensures enough { additional ≤ self.old.room → self.new ≡ self.old }
         ensures items { self.new.items ≡ self.old.items }
         ensures kept { self.old.room ≤ self.new.room }
+        ensures doubles { OnOk result (self.old.room < additional → min (2 * self.old.room) usize.MAX ≤ self.new.room) }
     {
-        if additional <= self.kept.capacity() - self.kept.len() {
+        let room = self.kept.capacity() - self.kept.len();
+        if additional <= room {
             return Ok(());
         }
-        self.kept.reserve(additional)
+        // A vector promises no more than it is asked for.
+        self.kept.reserve(additional.max(room.saturating_mul(2)))
     }
 
     /// Hands an item out under a ticket above all that are out, if there is room.

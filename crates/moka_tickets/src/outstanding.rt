@@ -1,5 +1,5 @@
 //! Operations that were handed out and have not come back.
-ghost use Rattle.std.specs.Prelude.{◌≡◌, ◌+◌, ◌<◌, ◌≤◌, ◌↔◌, ℕ, OnOk, IfOk, IfSome, IsOk, IsSome, IsNone, None, Some, is_some, nat_eq, slice_get, if◌then◌else◌};
+ghost use Rattle.std.specs.Prelude.{◌≡◌, ◌+◌, ◌*◌, ◌<◌, ◌≤◌, ◌↔◌, ℕ, min, OnOk, IfOk, IfSome, IsOk, IsSome, IsNone, None, Some, is_some, nat_eq, slice_get, if◌then◌else◌};
 ghost use Rattle.std.specs.FinMap as map;
 
 use crate::older::Older;
@@ -76,14 +76,16 @@ impl<T: Copy> Outstanding<T> {
         self.len() == 0
     }
 
-    /// Keeps room for `additional` more items, and changes nothing if there is room. An error takes neither items
-    /// nor room away.
+    /// Keeps room for `additional` more items, and changes nothing if there is room. If there is too little, the room
+    /// is afterwards at least twice what it was, or `usize::MAX`, so it grows seldom. An error takes neither items nor
+    /// room away.
     pub fn reserve(&mut self, additional: usize) -> Result<(), AllocError>
         ensures room { OnOk result (additional ≤ self.new.room) }
         ensures succeeds { additional ≤ self.old.room → IsOk result }
         ensures enough { additional ≤ self.old.room → self.new ≡ self.old }
         ensures items { self.new.items ≡ self.old.items }
         ensures kept { self.old.room ≤ self.new.room }
+        ensures doubles { OnOk result (self.old.room < additional → min (2 * self.old.room) usize.MAX ≤ self.new.room) }
     {
         self.older.reserve(additional)
     }

@@ -40,7 +40,7 @@ impl<
         self.cache.hash_of(form)
     }
 
-    /// As `contains_key` of the key that passes. `hash` is that of the keys that do, by the cache's hasher.
+    /// As `contains_key` of the key that passes; `false` if none is there. `hash` is that key's, by the cache's hasher.
     pub fn contains_key_by<T: KeyTest<K>>(&mut self, test: &T, hash: u64) -> bool
         requires own { (k : K) → T.passes test.now k ≡ true
             → hash ≡ key_hash S.BuildHasher S.Hasher.Hasher self.old.cache.engine.hasher (K.hash_input k) }

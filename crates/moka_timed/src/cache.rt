@@ -1,10 +1,10 @@
 //! A synchronous cache that owns its clock.
-ghost use Rattle.std.specs.Prelude.{◌≡◌, ◌≤◌, false, Option, Some, None, Result, IfOk, IfErr, IsOk, OnErr, option_copied, unwrap_or, IfSome, option_map};
+ghost use Rattle.std.specs.Prelude.{◌≡◌, ◌≤◌, false, true, Option, Some, None, Result, IfOk, IfErr, IsOk, OnErr, option_copied, unwrap_or, IfSome, option_map, ⊤};
 ghost use Rattle.moka_parts.specs.Calls.{CapacityStep, ContainsStep, InvalidateStep, no_events, only_ids};
 ghost use Rattle.moka_parts.specs.Exact.{IsExact, IsWithin};
 ghost use Rattle.moka_records.specs.Records.{record_of_key};
 ghost use Rattle.moka_parts.specs.Runs.{Befalls};
-ghost use Rattle.moka_parts.specs.State.{Events, limits_of};
+ghost use Rattle.moka_parts.specs.State.{Events, is_disabled, limits_of};
 ghost use Rattle.moka_parts.specs.Surroundings.{Leads};
 ghost use Rattle.moka_types.specs.declared.calls.Reply.TheVariants as reply;
 ghost use Rattle.moka_types.specs.declared.error.InsertRefused.{InsertRefused};
@@ -15,7 +15,7 @@ ghost use Rattle.moka_engine.specs.Config.{new_engine};
 ghost use Rattle.moka_engine.specs.Looks.{CanHandOutValue};
 ghost use Rattle.moka_parts.specs.Counters.{after_look_up};
 ghost use Rattle.moka_records.specs.Hashing.{key_hash};
-ghost use Rattle.moka_cache.specs.Keyed.{CanNotify, Gets, Inserts, IsOfInsert, Removes};
+ghost use Rattle.moka_cache.specs.Keyed.{CanNotify, Gets, Inserts, IsOfClone, IsOfInsert, Removes};
 ghost use Rattle.moka_cache.specs.Saved.{HasOnlyMembers};
 ghost use Rattle.moka_timed.specs.Moments.{AtItsMoment, AtItsOnlyMoment, AtAnyMoment};
 ghost use Rattle.moka_calls.specs.Synchronous.{fresh, Makes, meaning_of, Just, own_run, removed, invalidated, taken_out, GetsWith, GetsWithIfMade, GetsWithIfNoError};
@@ -119,14 +119,14 @@ impl<
         self.cache.policy()
     }
 
-    /// How many entries the last run of maintenance counted.
+    /// How many entries the last run of maintenance counted; 0 before the first run.
     pub fn entry_count(&self) -> u64
         ensures { result ≡ self.now.cache.engine.state.count }
     {
         self.cache.entry_count()
     }
 
-    /// The weight that the last run of maintenance counted, saturating.
+    /// The total weight that the last run of maintenance counted, saturating; 0 before the first run.
     pub fn weighted_size(&self) -> u64
         ensures { result ≡ self.now.cache.engine.state.weight }
     {
@@ -142,7 +142,7 @@ impl<
         self.cache.contains_key(key, now)
     }
 
-    /// Puts a value under a key. A cache of capacity 0 drops both.
+    /// Puts a value under a key, in place of one that is there. A cache of capacity 0 drops both.
     ///
     /// # Errors
     /// As `Cache::insert`.
@@ -233,9 +233,9 @@ impl<
         self.cache.invalidate(key, now, &mut self.clock)
     }
 
-    /// A clone of a key's value, if the key is there and visible, and else of the value that `init` makes, which is
-    /// inserted. `init` is called only if the key is not there. The entry is inserted at the moment that was read
-    /// before `init` was called, so if that takes longer than the time to live the entry has expired already.
+    /// A clone of a key's value, if the key is there and visible. Otherwise `init` is called, and the value that it
+    /// returns is inserted and a clone of it handed out. The entry is inserted at the moment that was read before
+    /// `init` was called, so if that takes longer than the time to live, the entry has expired already.
     ///
     /// # Errors
     /// As `Cache::get_with`.
@@ -252,12 +252,14 @@ impl<
             old clock new clock_after (F.post init) result) }
         ensures looks_up { CanHandOutValue V.is_infallible
             (record_of_key K.eq self.old.cache.engine.state.records key) → IfErr result IsOfInsert }
+        ensures disabled { is_disabled self.old.cache.engine.state.capacity ≡ true
+            → IfErr result (IsOfClone (λ _. ⊤) V.is_infallible) }
     {
         let now = self.clock.now();
         self.cache.get_with(key, init, now, &mut self.clock)
     }
 
-    /// As `get_with`, for a maker that may decline: then nothing is inserted, and `None` is answered.
+    /// As `get_with`, for an `init` that may return `None`: then nothing is inserted, and `None` is returned.
     ///
     /// # Errors
     /// As `Cache::get_with`.
@@ -278,13 +280,15 @@ impl<
             old clock new clock_after (F.post init) result) }
         ensures looks_up { CanHandOutValue V.is_infallible
             (record_of_key K.eq self.old.cache.engine.state.records key) → IfErr result IsOfInsert }
+        ensures disabled { is_disabled self.old.cache.engine.state.capacity ≡ true
+            → IfErr result (IsOfClone (λ _. ⊤) V.is_infallible) }
     {
         let now = self.clock.now();
         self.cache
             .optionally_get_with(key, init, now, &mut self.clock)
     }
 
-    /// As `get_with`, for a maker that may fail: then nothing is inserted, and its error is answered.
+    /// As `get_with`, for an `init` that may fail: then nothing is inserted, and its error is returned.
     ///
     /// # Errors
     /// The outer error as `Cache::get_with`; the inner one is the maker's.
@@ -305,13 +309,15 @@ impl<
             old clock new clock_after (F.post init) result) }
         ensures looks_up { CanHandOutValue V.is_infallible
             (record_of_key K.eq self.old.cache.engine.state.records key) → IfErr result IsOfInsert }
+        ensures disabled { is_disabled self.old.cache.engine.state.capacity ≡ true
+            → IfErr result (IsOfClone (λ _. ⊤) V.is_infallible) }
     {
         let now = self.clock.now();
         self.cache.try_get_with(key, init, now, &mut self.clock)
     }
 
-    /// Registers a predicate at the clock's moment: what it covers is hidden from now on, and runs of maintenance
-    /// remove it.
+    /// Registers a predicate at the clock's moment. The entries written at that moment or before that it applies to are
+    /// hidden from now on, and runs of maintenance remove them.
     ///
     /// # Errors
     /// As `Cache::invalidate_entries_if`.
@@ -343,7 +349,7 @@ impl<
         self.cache.set_max_capacity(capacity)
     }
 
-    /// Invalidates all entries that were written or read before the clock's moment.
+    /// Hides all entries that were written or read before the clock's moment; runs of maintenance remove them.
     pub fn invalidate_all(&mut self)
         ensures made { AtItsOnlyMoment C.reads self.old self.new (λ now old new.
             (new.engine.state ≡ record old.engine.state { invalid_before = Some now })
@@ -356,8 +362,8 @@ impl<
 
     /// Runs maintenance without a time limit. The answer tells whether more is left.
     ///
-    /// It leaves count and weight exactly the entries', and the weight within the capacity, and each entry is in the
-    /// order of access.
+    /// Afterwards `entry_count` and `weighted_size` are exact, the weight is within the capacity, and a snapshot leaves
+    /// no visible entry out.
     pub fn run_pending_tasks(&mut self) -> bool
     where
         K: Drop,

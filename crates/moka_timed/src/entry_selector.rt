@@ -1,13 +1,14 @@
 //! Entry calls of the cache that owns its clock, at the moment that it reads at the start of each.
 ghost use Rattle.std.specs.Prelude.{◌≡◌, false, true, IfErr, IsOk, Option, option_copied};
 ghost use Rattle.moka_parts.specs.Calls.{ContainsStep};
+ghost use Rattle.moka_parts.specs.State.{is_disabled};
 ghost use Rattle.moka_calls.specs.Computing.{AndUpserts, AndComputes};
 ghost use Rattle.moka_calls.specs.Entries.{OrInserts, OrInsertsMade, OrInsertsIfMade, OrInsertsIfNoError};
 ghost use Rattle.moka_calls.specs.Given.{Sees};
 ghost use Rattle.moka_records.specs.Hashing.{key_hash};
 ghost use Rattle.moka_records.specs.Records.{record_of_key};
 ghost use Rattle.moka_engine.specs.Looks.{CanHandOutValue};
-ghost use Rattle.moka_cache.specs.Keyed.{CanNotifyOfAny, IsNotOfNotice, IsOfChange, IsOfInsert};
+ghost use Rattle.moka_cache.specs.Keyed.{CanNotifyOfAny, IsNotOfNotice, IsOfChange, IsOfClone, IsOfComputedClone, IsOfInsert, MayFail};
 ghost use Rattle.moka_timed.specs.Moments.{AtItsMoment, AtAnyMoment};
 ghost use Rattle.moka_calls.specs.Synchronous.{meaning_of, hears_clones};
 
@@ -73,11 +74,12 @@ impl<
             OrInserts (meaning_of K.eq L.tells P.says W.weighs C.reads X.created X.read X.updated)
             K.is_clone V.is_clone self.entry.key
             (key_hash S.BuildHasher S.Hasher.Hasher old.engine.hasher (K.hash_input self.entry.key)) now
-            old clock new clock_after value result) }
-        ensures succeeds { AtAnyMoment C.reads self.entry.cache.now.clock (λ now.
-            ContainsStep P.says K.eq self.entry.cache.now.cache.engine.state self.entry.key now.0 true)
-            → CanHandOutValue V.is_infallible
-            (record_of_key K.eq self.entry.cache.now.cache.engine.state.records self.entry.key) → IsOk result }
+            old clock new clock_after value result
+            × (ContainsStep P.says K.eq old.engine.state self.entry.key now.0 true
+            → CanHandOutValue V.is_infallible (record_of_key K.eq old.engine.state.records self.entry.key)
+            → IsOk result)) }
+        ensures disabled { is_disabled self.entry.cache.now.cache.engine.state.capacity ≡ true
+            → IfErr result (MayFail K.is_infallible V.is_infallible) }
     {
         let TimedEntrySelector { cache: timed, key } = self;
         let now = timed.clock.now();
@@ -108,6 +110,8 @@ impl<
             old clock new clock_after (F.post init) result) }
         ensures looks_up { CanHandOutValue V.is_infallible (record_of_key K.eq
             self.entry.cache.now.cache.engine.state.records self.entry.key) → IfErr result IsOfInsert }
+        ensures disabled { is_disabled self.entry.cache.now.cache.engine.state.capacity ≡ true
+            → IfErr result (IsOfClone K.is_infallible V.is_infallible) }
     {
         let TimedEntrySelector { cache: timed, key } = self;
         let now = timed.clock.now();
@@ -138,6 +142,8 @@ impl<
             old clock new clock_after (F.post init) result) }
         ensures looks_up { CanHandOutValue V.is_infallible (record_of_key K.eq
             self.entry.cache.now.cache.engine.state.records self.entry.key) → IfErr result IsOfInsert }
+        ensures disabled { is_disabled self.entry.cache.now.cache.engine.state.capacity ≡ true
+            → IfErr result (IsOfClone K.is_infallible V.is_infallible) }
     {
         let TimedEntrySelector { cache: timed, key } = self;
         let now = timed.clock.now();
@@ -168,6 +174,8 @@ impl<
             old clock new clock_after (F.post init) result) }
         ensures looks_up { CanHandOutValue V.is_infallible (record_of_key K.eq
             self.entry.cache.now.cache.engine.state.records self.entry.key) → IfErr result IsOfInsert }
+        ensures disabled { is_disabled self.entry.cache.now.cache.engine.state.capacity ≡ true
+            → IfErr result (IsOfClone K.is_infallible V.is_infallible) }
     {
         let TimedEntrySelector { cache: timed, key } = self;
         let now = timed.clock.now();
@@ -198,6 +206,8 @@ impl<
             old clock new clock_after (F.post f) result) }
         ensures looks_up { CanHandOutValue V.is_infallible (record_of_key K.eq
             self.entry.cache.now.cache.engine.state.records self.entry.key) → IfErr result IsOfInsert }
+        ensures disabled { is_disabled self.entry.cache.now.cache.engine.state.capacity ≡ true
+            → IfErr result (IsOfClone K.is_infallible V.is_infallible) }
     {
         let TimedEntrySelector { cache: timed, key } = self;
         let now = timed.clock.now();
@@ -230,6 +240,8 @@ impl<
             old clock new clock_after (λ seen op. (x : _) × (option_copied x ≡ seen) × F.post f x op) result) }
         ensures looks_up { CanHandOutValue V.is_infallible (record_of_key K.eq
             self.entry.cache.now.cache.engine.state.records self.entry.key) → IfErr result IsOfChange }
+        ensures disabled { is_disabled self.entry.cache.now.cache.engine.state.capacity ≡ true
+            → IfErr result (IsOfComputedClone K.is_infallible V.is_infallible) }
         ensures notified { CanNotifyOfAny K.is_infallible V.is_infallible
             self.entry.cache.now.cache.engine.state.settings.listening → IfErr result IsNotOfNotice }
     {

@@ -1,9 +1,9 @@
-//! What calls refuse, by name. moka: `common::error`.
+//! Why calls are refused. moka: `common::error`.
 use std::alloc::AllocError;
 use std::error::Error;
 use std::fmt;
 
-/// Memory was refused, or a record would need a place of more than 32 bits. Each call says what has changed then.
+/// Memory was refused, or the limit of records, just below 2^32, is reached. Each call says what has changed then.
 #[derive(Clone, Copy, Debug, PartialEq, Eq)]
 pub struct OutOfMemory;
 
@@ -54,7 +54,7 @@ impl Error for SendError {}
 /// Why an insert was refused.
 #[derive(Clone, Copy, Debug, PartialEq, Eq)]
 pub enum InsertError {
-    /// Memory was refused, or a record would need a place of more than 32 bits. Each call says what has changed then.
+    /// Memory was refused, or the limit of records, just below 2^32, is reached. Each call says what has changed then.
     OutOfMemory,
     /// The tickets are used up, but for those that are kept for the removals of records.
     NumbersUsedUp,

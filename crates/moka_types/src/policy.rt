@@ -65,7 +65,7 @@ impl Policy {
         self.max_capacity
     }
 
-    /// How many segments the cache has: always 1.
+    /// Always 1, also for a cache in segments, where moka returns how many there are.
     pub fn num_segments(&self) -> usize
         ensures { result ≡ 1 }
     {
@@ -161,7 +161,7 @@ pub trait Expiry<K, V> {
     fn expire_after_create(&self, key: &K, value: &V, created_at: Instant) -> Option<Duration>
         ensures { option_map as_nanos result ≡ created self.now key.now value.now created_at.0 };
 
-    /// How long an entry lasts after a read; `duration_until_expiry` is what it has left.
+    /// How long an entry lasts after a read; to answer `duration_until_expiry`, what it has left, changes nothing.
     fn expire_after_read(
         &self,
         key: &K,
@@ -174,8 +174,8 @@ pub trait Expiry<K, V> {
             ≡ read self.now key.now value.now read_at.0
             (option_map as_nanos duration_until_expiry) last_modified_at.0 };
 
-    /// How long an entry lasts after its value was replaced; `duration_until_expiry` is what
-    /// it has left.
+    /// How long an entry lasts after its value was replaced. To answer `duration_until_expiry`, which is what it has
+    /// left, changes nothing.
     fn expire_after_update(
         &self,
         key: &K,

@@ -41,12 +41,13 @@ InsertsAndFinds {K} {V} {S} {X} {L} {P} {W} {C} hash_of m is_clone key value sou
 
 module _ {K V S X L P W C : Type 0} (hash_of : S → K → ℕ) (m : Meaning K V X L P W C (Unit {0}))
     (is_key_clone : K → K → Type 0) (is_clone : V → V → Type 0) where
-  -- the segment that the key belongs to was looked up, and the value put in if none was visible; every other is as it was
+  -- the segment that the key belongs to was looked up, and the value put in if none was visible; every other is as it
+  -- was
   abbrev pub OrInsertsInOne : K → V → Instant → Segmented K V S X L P W → C → Segmented K V S X L P W → C →
       Result (CacheEntry K V) (InsertRefused K V) → Type 0
   OrInsertsInOne key value now old clock new clock_after result =
-      Steps (segment_of old.routing.count (hash_of old.routing.hasher key)) (λ s t.
-      OrInserts m is_key_clone is_clone key (hash_of s.engine.hasher key) now s clock t clock_after value result) old new
+      Steps (segment_of old.routing.count (hash_of old.routing.hasher key)) (λ s t. OrInserts m is_key_clone is_clone
+      key (hash_of s.engine.hasher key) now s clock t clock_after value result) old new
 
   -- that is one move, of this segment: a get, and an insert of what was put in, if anything was
   abbrev pub GetsOrPuts : K → Instant → Segmented K V S X L P W → C → Segmented K V S X L P W → C → Type 0

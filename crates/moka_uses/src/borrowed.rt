@@ -17,10 +17,10 @@ use std::time::Duration;
 /// Prices by names.
 pub type Prices<C> = TimedCache<String, u64, C>;
 
-/// No prices. One holds for the time `lasting`.
+/// An empty cache of prices. A price holds for the time `lasting`.
 ///
 /// # Errors
-/// `OutOfMemory`
+/// `OutOfMemory` if memory for the cache is refused.
 pub fn start<C: Clock + Drop>(
     alloc: Global,
     lasting: Duration,

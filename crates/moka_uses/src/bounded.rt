@@ -1,4 +1,4 @@
-//! A bounded cache in ten lines.
+//! A bounded cache, by the engine and its tickets.
 ghost use Rattle.std.specs.Prelude.{◌≡◌, Some, None, IfOk};
 
 use anyhow::Result;

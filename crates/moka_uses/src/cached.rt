@@ -7,12 +7,11 @@ use moka_engine::{CacheConfig, FixedClock, Instant};
 use std::alloc::Global;
 
 /// Puts a value into a cache of at most 10,000 entries, and gets it back.
-pub fn put_and_get(alloc: Global, key: u64, value: u64) -> Result<Option<u64>>
+pub fn put_and_get(alloc: Global, key: u64, value: u64, now: Instant) -> Result<Option<u64>>
     ensures { IfOk result (λ found. found ≡ Some value) }
 {
-    let (now, mut clock) = (Instant(0), FixedClock(Instant(0)));
     let config = CacheConfig::default().max_capacity(10_000);
     let mut cache: Cache<u64, u64> = Cache::build(config, alloc, now)?;
-    cache.insert(key, value, now, &mut clock)?;
-    Ok(cache.get(&key, now, &mut clock)?)
+    cache.insert(key, value, now, &mut FixedClock(now))?;
+    Ok(cache.get(&key, now, &mut FixedClock(now))?)
 }

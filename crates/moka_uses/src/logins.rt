@@ -50,10 +50,10 @@ impl<K> PredicateFn<K, Session> for OfUser {
 /// Sessions by their numbers.
 pub type Logins<C> = TimedCache<u64, Session, C, NoExpiry, NoListener, OfUser>;
 
-/// No sessions. A session that is not used for the time `idle` ends.
+/// An empty cache of sessions. A session that is not used for the time `idle` ends.
 ///
 /// # Errors
-/// `OutOfMemory`
+/// `OutOfMemory` if memory for the cache is refused.
 pub fn start<C: Clock + Drop>(
     alloc: Global,
     idle: Duration,

@@ -12,8 +12,8 @@ use moka_cache::{Cache, GetWithRefused};
 use moka_engine::{Clock, Expiry, Instant, Listener, PredicateFn, Weigher};
 use std::hash::Hash;
 
-/// The value of a key: a clone of the one that is there, or else what the source gives, which is kept. A failure of the
-/// source is handed on, and nothing is inserted then. The source is asked once, and only if the key is not there.
+/// The value of a key: a clone of the visible one, or else what the source gives, which is kept. A failure of the
+/// source is handed on, and nothing is inserted then. The source is asked only if no value is visible, and then once.
 ///
 /// # Errors
 /// The inner error is the source's. The outer one, as of `Cache::try_get_with`, has the key, and the source's value if

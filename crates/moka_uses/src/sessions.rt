@@ -17,10 +17,10 @@ use std::time::Duration;
 /// Users' tokens.
 pub type Sessions<C> = TimedCache<u64, u64, C>;
 
-/// No sessions. A session that is not used for the time `idle` ends.
+/// An empty cache of sessions. A session that is not used for the time `idle` ends.
 ///
 /// # Errors
-/// `OutOfMemory`
+/// `OutOfMemory` if memory for the cache is refused.
 pub fn start<C: Clock + Drop>(
     alloc: Global,
     idle: Duration,

@@ -46,7 +46,7 @@ fn is_right(alloc: Global, case: &Case) -> Result<bool> {
             let found = bounded::put_and_get(alloc, 1, 10)?;
             Ok(matches!(found, Some(entry) if entry.value == 10))
         }
-        Case::Cached => Ok(cached::put_and_get(alloc, 1, 10)? == Some(10)),
+        Case::Cached => Ok(cached::put_and_get(alloc, 1, 10, Instant(0))? == Some(10)),
         Case::Expiring => Ok(is_open_until(alloc, 104)? && !is_open_until(alloc, 105)?),
         Case::Late => counts_both(alloc),
         Case::Listed => lists_text(alloc),

@@ -1,10 +1,22 @@
 -- Where a timer stands in the wheel, and which buckets are in use.
-use Rattle.std.specs.Prelude.{◌≡◌, ℕ, ◌*◌, ◌/◌, ◌%◌, ◌^◌, ◌<◌, ◌≤◌, List, slice_index_or}
+use Rattle.std.specs.Prelude.{◌≡◌, ℕ, ◌+◌, ◌-◌, ◌*◌, ◌/◌, ◌%◌, ◌^◌, ◌<◌, ◌≤◌, List, slice_index_or}
 use Rattle.std.specs.Int.{bit_at}
 
 -- the bytes of a moment from a level on, as one number
 abbrev pub part : ℕ → ℕ → ℕ
 part x level = x / 2 ^ (8 * level)
+
+-- how many moments a bucket has
+abbrev pub span_of : ℕ → ℕ
+span_of bucket = 2 ^ (8 * (bucket / 256))
+
+-- the first moment of a bucket that is ahead of a wheel at `moment`
+abbrev pub start_of : ℕ → ℕ → ℕ
+start_of moment bucket = (part moment (bucket / 256) / 256 * 256 + bucket % 256) * span_of bucket
+
+-- its last moment
+abbrev pub end_of : ℕ → ℕ → ℕ
+end_of moment bucket = start_of moment bucket + (span_of bucket - 1)
 
 -- the bucket is that of the timer's byte at a level above which its moment agrees with the wheel's
 pub record IsNear (moment at bucket : ℕ) : Type 0 where

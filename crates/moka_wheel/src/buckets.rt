@@ -1,8 +1,8 @@
 //! The buckets of the wheel, and how its moment moves.
-ghost use Rattle.std.specs.Prelude.{◌≡◌, ◌≢◌, ℕ, ◌+◌, ◌*◌, ◌/◌, ◌%◌, ◌^◌, ◌<◌, ◌≤◌, IsTrue, IfOk, IfSome, IfNone, length, vec_len, vec_capacity, false};
+ghost use Rattle.std.specs.Prelude.{◌≡◌, ◌≢◌, ℕ, ◌+◌, ◌<◌, ◌≤◌, min, IsTrue, IfOk, IfSome, IfNone, length, vec_len, vec_capacity, false};
 ghost use Rattle.moka_links.specs.Links.{KeepsCapacity};
 ghost use Rattle.moka_wheel.specs.Nodes.{at, attached, befores, behinds, buckets, moments, numbers};
-ghost use Rattle.moka_wheel.specs.Levels.{IsHome, bit_of, part};
+ghost use Rattle.moka_wheel.specs.Levels.{IsHome, bit_of, end_of, span_of, start_of};
 ghost use Rattle.moka_wheel.specs.Buckets.{AreBuckets, IsTimer, Keeps, Puts, Takes};
 
 use crate::levels::{first_marked, home, mark, unmark};
@@ -24,7 +24,7 @@ pub(crate) struct Buckets {
 /// The first moment of a bucket that is ahead of `moment`.
 fn start_of(moment: u64, bucket: u32) -> u64
     requires { bucket < 2048 }
-    ensures { result ≡ (part moment (bucket / 256) / 256 * 256 + bucket % 256) * 2 ^ (8 * (bucket / 256)) }
+    ensures { result ≡ start_of moment bucket }
 {
     let level = bucket / 256;
     let above = (moment >> (8 * level)) / 256;
@@ -34,7 +34,7 @@ fn start_of(moment: u64, bucket: u32) -> u64
 /// How many moments a bucket has.
 fn span_of(bucket: u32) -> u64
     requires { bucket < 2048 }
-    ensures { result ≡ 2 ^ (8 * (bucket / 256)) }
+    ensures { result ≡ span_of bucket }
 {
     1 << (8 * (bucket / 256))
 }
@@ -111,6 +111,8 @@ impl Buckets {
         ensures capacity { KeepsCapacity self.old.nodes self.new.nodes }
         ensures at_most { self.new.moment ≤ now }
         ensures moved { IsTrue result → self.old.moment < self.new.moment }
+        ensures far { IsTrue result → (bucket : ℕ) × (bit_of self.old.occupied bucket ≡ 1)
+            × (self.new.moment ≡ min now (end_of self.old.moment bucket)) }
         ensures end { result ≡ false → self.new.moment ≡ now }
         ensures kept { result ≡ false → self.new.nodes.items ≡ self.old.nodes.items }
     {

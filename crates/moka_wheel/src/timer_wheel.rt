@@ -1,5 +1,5 @@
 //! A hierarchical timer wheel.
-ghost use Rattle.std.specs.Prelude.{◌≡◌, ◌+◌, ◌<◌, ◌≤◌, ℕ, IsOk, IsSome, OnOk, IfOk, IfSome, IfNone, Some, None, nat_eq, option_map, if◌then◌else◌};
+ghost use Rattle.std.specs.Prelude.{◌≡◌, ◌+◌, ◌-◌, ◌*◌, ◌^◌, ◌<◌, ◌≤◌, ℕ, min, IsOk, IsSome, OnOk, IfOk, IfSome, IfNone, Some, None, nat_eq, option_map, if◌then◌else◌};
 ghost use Rattle.std.specs.FinMap.{empty, get, insert, len, remove};
 ghost use Rattle.moka_wheel.specs.Wheel.{Timer};
 
@@ -82,24 +82,30 @@ impl TimerWheel {
         self.len
     }
 
-    /// Makes room for `additional` more timers, and changes nothing if there is room. It refuses more than 32-bit
-    /// slots can name, as it does for want of memory.
+    /// Makes room for `additional` more timers, and changes nothing if there is room. If there is too little, the
+    /// timers that fit are afterwards at least twice as many as before, or 2^32 - 2049, so a wheel grows seldom as it
+    /// fills. It refuses more than 32-bit slots can name, as it does for want of memory.
     pub fn reserve(&mut self, additional: usize) -> Result<(), AllocError>
         ensures room { OnOk result (additional ≤ self.new.room) }
         ensures succeeds { additional ≤ self.old.room → IsOk result }
         ensures enough { additional ≤ self.old.room → self.new ≡ self.old }
         ensures timers { self.new.timers ≡ self.old.timers }
         ensures grows { self.old.room ≤ self.new.room }
+        ensures doubles { OnOk result (self.old.room < additional
+            → min (2 * (len self.old.timers + self.old.room)) (2 ^ 32 - 2049)
+            ≤ len self.new.timers + self.new.room) }
     {
         let used = HEADS as usize + self.len;
         if additional > MOST - used {
             return Err(AllocError);
         }
         let wanted = used + additional;
-        if wanted <= self.buckets.nodes.capacity() {
+        let fit = self.buckets.nodes.capacity();
+        if wanted <= fit {
             return Ok(());
         }
-        let more = wanted - self.buckets.nodes.len();
+        // A vector promises no more than it is asked for.
+        let more = wanted.max(2 * fit) - self.buckets.nodes.len();
         self.buckets.nodes.reserve(more)
     }
 
@@ -152,7 +158,7 @@ impl TimerWheel {
         number
     }
 
-    /// Takes a timer out whose moment is at or before `now`. The answer is None exactly if there is none.
+    /// Takes out a timer whose moment is at or before `now`, and returns it; `None` exactly if there is none.
     ///
     /// `now` may be earlier than at the last call. Which of several timers comes first is open.
     pub fn advance(&mut self, now: u64) -> Option<Due>

@@ -1,6 +1,6 @@
 //! What a caller sets, as 16 words.
 ghost use Rattle.std.specs.Prelude.{◌≡◌, ◌<◌};
-ghost use Rattle.moka_workload.specs.Config.{additions, is_served, word_at};
+ghost use Rattle.moka_workload.specs.Config.{additions, config_of, is_served, optional_at, word_at};
 
 use moka_engine::CacheConfig;
 use moka_parts::policy::EvictionPolicy;
@@ -72,7 +72,9 @@ pub struct Config {
 
 impl Config {
     /// The settings that these bytes say.
-    pub fn read(bytes: &[u8]) -> Config {
+    pub fn read(bytes: &[u8]) -> Config
+        ensures { result ≡ config_of bytes.now }
+    {
         Config {
             max_capacity: optional(bytes, CAPACITY),
             time_to_live: optional(bytes, TIME_TO_LIVE),
@@ -137,7 +139,9 @@ fn additions(bytes: &[u8]) -> u64
 }
 
 // The number at an index, if it does not stand for none.
-fn optional(bytes: &[u8], index: usize) -> Option<u64> {
+fn optional(bytes: &[u8], index: usize) -> Option<u64>
+    ensures { result ≡ optional_at bytes.now index }
+{
     match word(bytes, index) {
         NONE => None,
         number => Some(number),

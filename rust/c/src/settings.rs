@@ -8,8 +8,8 @@ use std::ffi::{c_char, c_void};
 use std::ptr::null_mut;
 use std::time::Duration;
 
-const MOST_SHARDS: u32 = 1 << 16;
-const MOST_INITIAL: u64 = 1 << 24;
+const MAX_SHARDS: u32 = 1 << 16;
+const MAX_INITIAL: u64 = 1 << 24;
 
 type Builder = CacheBuilder<Vec<u8>, Bytes>;
 
@@ -86,7 +86,7 @@ fn is_set(setting: i32) -> Result<bool, i32> {
 }
 
 fn sized(mut builder: Builder, settings: &Settings) -> Result<Builder, i32> {
-    if settings.shards > MOST_SHARDS || settings.initial_capacity > MOST_INITIAL {
+    if settings.shards > MAX_SHARDS || settings.initial_capacity > MAX_INITIAL {
         return Err(BAD_ARGUMENT);
     }
     if is_set(settings.is_bounded)? {

@@ -17,8 +17,8 @@ use std::time::{Duration, Instant};
 // At least so many entries are a shard's share if the builder chooses the shards.
 const LEAST_SHARE: u64 = 1024;
 // At most so many shards are chosen by the builder, and asked of it.
-const MOST_CHOSEN: u64 = 64;
-const MOST_ASKED: usize = 1 << 16;
+const MAX_CHOSEN: u64 = 64;
+const MAX_ASKED: usize = 1 << 16;
 
 /// What a shared cache is built with. moka: `sync::CacheBuilder`.
 ///
@@ -188,13 +188,13 @@ where
         if let Some(asked) = self.shards {
             // A share of 0 would keep nothing.
             let most = self.settings.max_capacity.unwrap_or(u64::MAX).max(1).ilog2();
-            let asked = asked.clamp(1, MOST_ASKED).next_power_of_two();
+            let asked = asked.clamp(1, MAX_ASKED).next_power_of_two();
             return (asked as u32).min(1 << most.min(16));
         }
         if self.settings.weigher.is_some() {
             return 1;
         }
-        let wanted = self.settings.max_capacity.map_or(MOST_CHOSEN, |all| all / LEAST_SHARE);
-        1 << wanted.clamp(1, MOST_CHOSEN).ilog2()
+        let wanted = self.settings.max_capacity.map_or(MAX_CHOSEN, |all| all / LEAST_SHARE);
+        1 << wanted.clamp(1, MAX_CHOSEN).ilog2()
     }
 }

@@ -30,15 +30,15 @@ impl<
     W: Weigher<K, V>,
     S: BuildHasher,
 > Cache<K, V, X, L, P, W, S> {
-    /// The hash of a form of a key by the cache's hasher. It is the key's if both give the hasher the same, as a `&str`
-    /// and a `String` of the same text do.
+    /// The hash of a form of a key, by the cache's hasher. It equals the key's own hash if both feed the hasher the
+    /// same data, as a `&str` and a `String` of the same text do.
     pub fn hash_of<Q: Hash>(&self, form: &Q) -> u64
         ensures { result ≡ key_hash S.BuildHasher S.Hasher.Hasher self.now.engine.hasher (Q.hash_input form.now) }
     {
         self.engine.hash_of(form)
     }
 
-    /// As `contains_key` of the key that passes. `hash` is that of the keys that do, by the cache's hasher.
+    /// As `contains_key` of the key that passes; `false` if none is there. `hash` is that key's, by the cache's hasher.
     pub fn contains_key_by<T: KeyTest<K>>(&self, test: &T, hash: u64, now: Instant) -> bool
         requires own { (k : K) → T.passes test.now k ≡ true
             → hash ≡ key_hash S.BuildHasher S.Hasher.Hasher self.now.engine.hasher (K.hash_input k) }

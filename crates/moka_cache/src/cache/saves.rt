@@ -56,9 +56,9 @@ impl<
     W: Weigher<K, V>,
     S: BuildHasher,
 > Cache<K, V, X, L, P, W, S> {
-    /// The entries that are visible at the moment `now`, least recently used first, with their moments and how long
-    /// they last. It takes no memory and clones nothing. After `run_pending_tasks` no visible entry is left out;
-    /// before, those are whose first insert was not applied yet.
+    /// The entries that are visible at the moment `now`, least recently used first, with their moments and the time
+    /// that each has left. It takes no memory and clones nothing. An entry whose first insert was not applied yet is
+    /// left out; `run_pending_tasks` applies all.
     pub fn snapshot(&self, now: Instant) -> Snapshot<'_, K, V, S, X, P>
         ensures { result ≡ scene_of self.now.engine.state now.0 }
     {
@@ -97,8 +97,8 @@ impl<
         clones_of(alloc, self.snapshot(now))
     }
 
-    /// Puts an entry back whose key has none, with the moments and the expiry that it had, and posts its operation as
-    /// an insert does at the moment `now`. A cache of capacity 0 drops it.
+    /// Puts back an entry whose key has none, with the moments and the expiry that it had, and sends its operation as
+    /// an insert at the moment `now` does. A cache of capacity 0 drops it.
     ///
     /// # Errors
     /// As `BaseCache::restore`: the entry comes back, and nothing has changed.
@@ -136,11 +136,11 @@ impl<
 
     /// Puts each entry back, in order, as `restore_entry`.
     ///
-    /// If there are no predicates and no invalidation of all: an entry that was put back is visible exactly when the
-    /// saved one is, until either is read or written, if time to live and time to idle are the same
-    /// (`moka_restore_laws`); and each entry that has not expired at the moment `now` is there afterwards, if the
-    /// capacity, should one be set, has room for all (`IsRoomyFor`). Else runs that a later entry starts may evict it.
-    /// How often keys were asked for is forgotten, and entries do not stand in the order of writing.
+    /// If there are no predicates and no invalidation of all: with the saved cache's times to live and to idle, an
+    /// entry that was put back is visible exactly when the saved one is, until either is read or written
+    /// (`moka_restore_laws`); and if the capacity, should one be set, has room for all (`IsRoomyFor`), each entry that
+    /// has not expired at the moment `now` is there afterwards. Else runs that a later entry starts may evict it.
+    /// Frequencies and the order of writing are not restored.
     ///
     /// # Errors
     /// As `restore_entry`, at the first entry that is refused: it comes back with the entries after it.

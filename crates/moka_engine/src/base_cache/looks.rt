@@ -130,7 +130,7 @@ impl<
     }
 
     /// Looks up a key at the moment `now` as `get_with_hash_and_ignore_if` does, but queues no read and starts no run.
-    /// That the record was read is noted in it, and its expiry asked.
+    /// That the record was read is noted in it, and its expiry asked. `_hash`, which moka takes, is ignored.
     ///
     /// # Errors
     /// `OutOfMemory` if memory for a clone of the value is refused. Nothing has changed but what the test keeps

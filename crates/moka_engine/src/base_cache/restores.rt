@@ -26,9 +26,9 @@ impl<
     P: PredicateFn<K, V>,
     W: Weigher<K, V>,
 > BaseCache<K, V, S, X, L, P, W> {
-    /// Puts an entry back whose key has none, with the moments and the expiry that it had, and hands out a ticket for
-    /// the operation, which is to be sent. The weigher is asked, and the expiry is not: the entry lasts no longer than
-    /// it would have. Moments may lie in any order, and before those of other entries.
+    /// Puts back an entry whose key has none, with the moments and the expiry that it had, and returns a ticket, under
+    /// which its operation is to be sent. The weigher is asked, and the expiry is not: that which the entry had stays.
+    /// Its moments may be in any order, and before those of other entries.
     ///
     /// # Errors
     /// `KeyPresent` if the key has an entry, else `NoExpiry` if the entry has an expiry of its own and the cache

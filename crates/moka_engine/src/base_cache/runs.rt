@@ -43,7 +43,7 @@ impl<
     ///
     /// - `now`: the moment by which all is tested.
     /// - `clock`: tells how long the run goes on. It is read only if a listener is set and there is a limit.
-    /// - `limit`: after this time no further pass is made, and more is left.
+    /// - `limit`: once so much time has passed, no further pass is made, and the answer is that more is left.
     /// - `repeats`: how often a run may go back to its queues. With one owner nothing is queued meanwhile, so it has no
     ///   effect.
     /// - `batch`: how many records each step of a pass looks at, but for the first. With 0 the passes remove only what
@@ -108,10 +108,10 @@ impl<
         ran.has_more
     }
 
-    /// Makes a run of maintenance at the moment `now` if the housekeeper says that one is due: the housekeeper's last
-    /// run left more, or runs start by themselves, and 64 operations are queued or 300 milliseconds have passed since
-    /// the housekeeper's last run. The housekeeper gives its limit, repeats and batch to the run, and remembers the
-    /// moment and, if a listener is set, whether more is left.
+    /// Makes a run of maintenance at the moment `now` if the housekeeper says that one is due: its last run left more,
+    /// or runs start by themselves and either 64 writes are queued or 300 milliseconds have passed since its last run.
+    /// The housekeeper gives its limit, repeats and batch to the run, and remembers the moment and, if a listener is
+    /// set, whether more is left.
     /// moka: `sync::base_cache::BaseCache::apply_reads_writes_if_needed`.
     pub fn apply_reads_writes_if_needed<C: Clock>(&mut self, now: Instant, clock: &mut C)
     where

@@ -115,13 +115,13 @@ impl<
         self.engine.policy()
     }
 
-    /// How many entries the last run of maintenance counted.
+    /// How many entries the last run of maintenance counted; 0 before the first run.
     pub fn entry_count(&self) -> u64
     {
         self.engine.entry_count()
     }
 
-    /// The weight that the last run of maintenance counted, saturating.
+    /// The total weight that the last run of maintenance counted, saturating; 0 before the first run.
     pub fn weighted_size(&self) -> u64
     {
         self.engine.weighted_size()
@@ -134,10 +134,10 @@ impl<
         self.engine.contains_key_with_own_hash(key, hash, now)
     }
 
-    /// Puts a value under a key at the moment `now`. A cache of capacity 0 drops both.
+    /// Puts a value under a key at the moment `now`, in place of one that is there. A cache of capacity 0 drops both.
     ///
     /// # Errors
-    /// `NumbersUsedUp` and `OutOfMemory`, with key and value; nothing has changed.
+    /// `NumbersUsedUp` if too few tickets are left, or `OutOfMemory`. Key and value come back; nothing has changed.
     pub fn insert<C: Clock>(
         &mut self,
         key: K,
@@ -260,9 +260,9 @@ impl<
         self.take_by(&SameKey(key), hash, now, clock)
     }
 
-    /// A clone of a key's value, if the key is there and visible at the moment `now`, and else the value that `init`
-    /// makes, which is inserted; a clone of it is handed out. `init` is called only if the key is not there. The value
-    /// is inserted at the moment `now`, so if `init` takes longer than the time to live the entry has expired already.
+    /// A clone of a key's value, if the key is there and visible at the moment `now`. Otherwise `init` is called, and
+    /// the value that it returns is inserted and a clone of it handed out. The value is inserted at the moment `now`,
+    /// so if `init` takes longer than the time to live, the entry has expired already.
     ///
     /// ```text
     /// let value = cache.get_with(key, || 20, now, &mut clock)?;
@@ -285,7 +285,7 @@ impl<
         always_made(self.try_get_with(key, || Ok(init()), now, clock))
     }
 
-    /// As `get_with`, for a maker that may decline: then nothing is inserted, and `None` is answered.
+    /// As `get_with`, for an `init` that may return `None`: then nothing is inserted, and `None` is returned.
     ///
     /// # Errors
     /// As `get_with`.
@@ -303,7 +303,7 @@ impl<
         if_made(self.try_get_with(key, || init().ok_or(()), now, clock))
     }
 
-    /// As `get_with`, for a maker that may fail: then nothing is inserted, and its error is answered.
+    /// As `get_with`, for an `init` that may fail: then nothing is inserted, and its error is returned.
     ///
     /// ```text
     /// match cache.try_get_with(key, || read_from(source), now, &mut clock)? {
@@ -394,8 +394,8 @@ impl<
         self.stats.loads = self.stats.loads.saturating_add(1);
     }
 
-    /// Registers a predicate at the moment `now`, as the engine's call of this name does: what it covers is hidden from
-    /// now on, and runs of maintenance remove it.
+    /// Registers a predicate at the moment `now`. The entries written at that moment or before that it applies to are
+    /// hidden from now on, and runs of maintenance remove them.
     ///
     /// # Errors
     /// As the engine's: the predicate comes back, and nothing has changed.
@@ -419,8 +419,8 @@ impl<
         self.engine.set_max_capacity(capacity)
     }
 
-    /// Invalidates all entries that were written or read before the moment `now`, which replaces that of an earlier
-    /// call.
+    /// Hides all entries that were written or read before the moment `now`; runs of maintenance remove them. This
+    /// moment replaces that of an earlier call.
     pub fn invalidate_all(&mut self, now: Instant)
     {
         self.engine.invalidate_all(now);
@@ -428,8 +428,8 @@ impl<
 
     /// Runs maintenance without a time limit. The answer tells whether more is left.
     ///
-    /// It leaves count and weight exactly the entries', and the weight within the capacity, and each entry is in the
-    /// order of access.
+    /// Afterwards `entry_count` and `weighted_size` are exact, the weight is within the capacity, and `snapshot` leaves
+    /// no visible entry out.
     pub fn run_pending_tasks<C: Clock>(&mut self, now: Instant, clock: &mut C) -> bool
     {
         let (repeats, batch) = (MAX_LOG_SYNC_REPEATS, EVICTION_BATCH_SIZE);

@@ -53,12 +53,12 @@ impl<
     W: Weigher<K, V>,
     S: BuildHasher,
 > OwnedKeyEntrySelector<'a, K, V, X, L, P, W, S> {
-    /// The key's entry, with a clone of its value, if the key is there and visible at the moment `now`; else `value` is
-    /// inserted. If the key is there, `value` is dropped. No load is counted. moka: `or_insert`.
+    /// The key's entry, with a clone of its value, if the key is there and visible at the moment `now`; then `value` is
+    /// dropped. Otherwise `value` is inserted. No load is counted. moka: `or_insert`.
     ///
     /// # Errors
-    /// `OutOfMemory` if memory for a clone or for the insert is refused, and `NumbersUsedUp`; key and value come back,
-    /// and nothing was inserted.
+    /// `OutOfMemory` if memory for a clone or for the insert is refused, `NumbersUsedUp` if too few tickets are left;
+    /// key and value come back, and nothing was inserted.
     pub fn or_insert<C: Clock>(
         self,
         value: V,
@@ -82,8 +82,8 @@ impl<
         cache.insert_entry(Put { key, hash, value }, false, now, clock)
     }
 
-    /// As `or_insert`, for the value that `init` makes, which is inserted at the moment `now` as by `Cache::get_with`.
-    /// `init` is called only if the key is not there. moka: `or_insert_with`.
+    /// As `or_insert`, for the value that `init` returns, inserted at the moment `now` as by `Cache::get_with`. `init`
+    /// is called only if no value is visible, and counted as a load. moka: `or_insert_with`.
     ///
     /// # Errors
     /// `Lookup`, with the key, if memory for the clone of a value that is there is refused; and `Insert`, with key and
@@ -101,8 +101,8 @@ impl<
         always_made(self.or_try_insert_with(|| Ok(init()), now, clock))
     }
 
-    /// As `or_insert_with`, for a maker that may decline: then nothing is inserted, and `None` is answered. moka:
-    /// `or_optionally_insert_with`.
+    /// As `or_insert_with`, for an `init` that may return `None`: then nothing is inserted, and `None` is returned.
+    /// moka: `or_optionally_insert_with`.
     ///
     /// # Errors
     /// As `or_insert_with`.
@@ -119,7 +119,7 @@ impl<
         if_made(self.or_try_insert_with(|| init().ok_or(()), now, clock))
     }
 
-    /// As `or_insert_with`, for a maker that may fail: then nothing is inserted, and its error is answered. moka:
+    /// As `or_insert_with`, for an `init` that may fail: then nothing is inserted, and its error is returned. moka:
     /// `or_try_insert_with`.
     ///
     /// # Errors
@@ -199,8 +199,8 @@ impl<
     /// ```
     ///
     /// # Errors
-    /// `Lookup`, with the key, if memory for the clone of the value that is there is refused; `f` was not called. And
-    /// `Insert` and `NotTold`, with key and value.
+    /// `Lookup`, with the key, if memory for the clone of the value that is there is refused; `f` was not called.
+    /// `Insert` as `and_upsert_with`. `NotTold`, with key and value, if the listener is not notified of the removal.
     pub fn and_compute_with<F: FnOnce(Option<&V>) -> Op<V>, C: Clock>(
         self,
         f: F,

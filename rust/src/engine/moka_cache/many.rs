@@ -21,7 +21,7 @@ impl<
     W: Weigher<K, V>,
     S: BuildHasher,
 > Cache<K, V, X, L, P, W, S> {
-    /// Looks up each key at the moment `now`, in order, as `get`: what each finds, in the same order.
+    /// Looks up each key at the moment `now`, in order, as `get` does; the answers are in the same order.
     ///
     /// # Errors
     /// As `get`, at the first key that is refused: what the keys before it found comes back. If there is no memory for
@@ -86,7 +86,7 @@ impl<
     /// Takes each key out at the moment `now`, in order, as `invalidate`.
     ///
     /// # Errors
-    /// As `invalidate`, at the first key whose listener is not notified: the keys after it are left.
+    /// As `invalidate`, at the first key of whose removal the listener is not notified: the keys after it are left.
     pub fn invalidate_many<C: Clock>(
         &mut self,
         keys: &[K],

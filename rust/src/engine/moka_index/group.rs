@@ -43,8 +43,8 @@ pub(crate) fn without_lowest_bit(bits: u64) -> u64
 }
 
 impl Group {
-    /// A bit for each lane that has the hash. Lanes that are not in use may have theirs too, as may those past the
-    /// last, which there are not.
+    /// A bit for each lane that has the hash. The bits of lanes that are not in use, and the eighth bit, may be set as
+    /// well.
     #[inline(always)]
     pub(crate) fn matches(&self, hash: u32) -> u64
     {

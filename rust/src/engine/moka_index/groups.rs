@@ -6,7 +6,7 @@ use crate::engine::moka_index::group::{Group, LANES, home, lowest_set_bit, witho
 use crate::support::alloc::{AllocError, Global};
 
 /// At most 2^32 groups, since a hash has 32 bits.
-pub(crate) const MOST_GROUPS: usize = 1 << 32;
+pub(crate) const MAX_GROUPS: usize = 1 << 32;
 
 /// How many places a group has at most on average: the fewer, the fewer searches go on to a second group.
 pub(crate) const PLACES_PER_GROUP: usize = 4;

@@ -4,7 +4,7 @@ use crate::support::prelude::*;
 
 use crate::engine::moka_index::group::Group;
 use crate::engine::moka_index::groups::{
-    MOST_GROUPS, PLACES_PER_GROUP, empty_groups, find_entry, insert_entry, move_entries,
+    MAX_GROUPS, PLACES_PER_GROUP, empty_groups, find_entry, insert_entry, move_entries,
     remove_entry,
 };
 use crate::support::alloc::{AllocError, Global};
@@ -47,8 +47,9 @@ impl PlaceIndex {
     }
 
     /// Makes room for `additional` more places, and changes nothing if there is room. If there is too little, the
-    /// places that fit are afterwards at least twice as many as before, or 2^34, so an index grows seldom as it fills.
-    /// An error leaves the index as it was: there is no memory, or the index would have more than 2^34 places.
+    /// places that fit are afterwards at least twice as many as before, or 2^34, so an index grows seldom as it fills;
+    /// they are at most twice as many, or three more than were asked for. An error leaves the index as it was: there is
+    /// no memory, or the index would have more than 2^34 places.
     #[inline(always)]
     pub fn reserve(&mut self, additional: usize) -> Result<(), AllocError>
     {
@@ -63,11 +64,11 @@ impl PlaceIndex {
     #[cold]
     fn grow(&mut self, additional: usize) -> Result<(), AllocError>
     {
-        if additional > PLACES_PER_GROUP * MOST_GROUPS - self.len {
+        if additional > PLACES_PER_GROUP * MAX_GROUPS - self.len {
             return Err(AllocError);
         }
         let needed = (self.len + additional).div_ceil(PLACES_PER_GROUP);
-        let count = needed.max((2 * self.groups.len()).min(MOST_GROUPS));
+        let count = needed.max((2 * self.groups.len()).min(MAX_GROUPS));
         let mut groups = empty_groups(self.alloc, count)?;
         move_entries(&self.groups, &mut groups);
         self.groups = groups;

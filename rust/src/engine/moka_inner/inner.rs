@@ -18,7 +18,7 @@ use crate::engine::moka_parts::policy::Instant;
 use crate::engine::moka_parts::record_ref::RecordRef;
 use crate::engine::moka_parts::records::{Operation, ReadOperation, Record};
 use crate::engine::moka_sketch::frequency_sketch::FrequencySketch;
-use crate::engine::moka_store::{Handle, IndexHash, MOST_PLACES, Store, Update};
+use crate::engine::moka_store::{Handle, IndexHash, MAX_PLACES, Store, Update};
 use crate::engine::moka_tickets::outstanding::Outstanding;
 use crate::support::alloc::{AllocError, Global};
 use crate::support::hash::{BuildHasher, Hash};
@@ -251,7 +251,7 @@ impl<K: Eq + Hash, V, S: BuildHasher> Inner<K, V, S> {
     {
         self.store.invariant_holds();
         // A row's place has 32 bits.
-        let place = (place % MOST_PLACES) as u32;
+        let place = (place % MAX_PLACES) as u32;
         let _full = self.reads.try_push_back(QueuedRead::new(read, place));
     }
 

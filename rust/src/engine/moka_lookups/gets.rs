@@ -16,7 +16,7 @@ use crate::engine::moka_store::{Handle, IndexHash, Store};
 use crate::support::hash::{BuildHasher, Hash};
 use crate::support::time::Duration;
 
-/// What hides records by moments: their times to live and to idle, and invalidations.
+/// What hides records by moments: times to live and to idle, their own expiry, and the invalidation of all.
 pub struct Moments<'a, X> {
     /// The times to live and to idle, and the expiry of single entries.
     pub policy: &'a ExpirationPolicy<X>,
@@ -64,7 +64,7 @@ where
     Some((handle, found))
 }
 
-/// What a look-up hands out of the record that it finds. Nothing in it is lent by the cache, which the caller may change.
+/// What a look-up hands out of the record that it finds. It borrows nothing of the cache, which the caller may change.
 pub enum Look<T> {
     /// No record is found.
     Missed,

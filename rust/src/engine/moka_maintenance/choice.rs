@@ -11,7 +11,7 @@ use crate::engine::moka_store::{Handle, Store};
 use crate::support::hash::{BuildHasher, Hash};
 
 /// So many unsettled members in a row end the search for victims.
-const MOST_UNSETTLED: u32 = 6;
+const MAX_UNSETTLED: u32 = 6;
 
 /// What a choice came to.
 #[derive(Clone, Copy)]
@@ -43,7 +43,7 @@ pub(crate) fn choose<K: Eq + Hash, V, S: BuildHasher>(
     let mut ahead = store.member_count();
     // How many in a row were not settled.
     let mut unsettled = 0;
-    while weights < weight && frequencies <= frequency && unsettled < MOST_UNSETTLED {
+    while weights < weight && frequencies <= frequency && unsettled < MAX_UNSETTLED {
         let Some((handle, counted)) = next else {
             break;
         };

@@ -17,7 +17,7 @@ use crate::support::hash::{BuildHasher, Hash};
 use crate::support::time::Duration;
 
 // How many rows are read ahead at most: as many as a run removes if one is made at each 64th operation.
-const MOST_AHEAD: u128 = 64;
+const MAX_AHEAD: u128 = 64;
 
 /// What a run goes by.
 #[derive(Clone, Copy)]
@@ -161,7 +161,7 @@ fn read_ahead<K: Eq + Hash, V, S: BuildHasher>(
 {
     if let (Sweep::Surplus, Some(limit)) = (sweep, terms.tests.capacity) {
         let surplus = store.total_weight().saturating_sub(u128::from(limit));
-        let rows = surplus.min(MOST_AHEAD).min(u128::from(terms.batch));
+        let rows = surplus.min(MAX_AHEAD).min(u128::from(terms.batch));
         store.read_ahead(rows as usize);
     }
 }

@@ -85,7 +85,7 @@ pub(crate) enum Turn {
 pub(crate) struct Swept {
     /// How many records it removed.
     pub removed: u32,
-    /// Whether each of all its turns removed one.
+    /// Whether it made all its turns, and each removed a record.
     pub has_more: bool,
 }
 
@@ -140,14 +140,14 @@ fn take_turn<K: Eq + Hash, V, S: BuildHasher, L: Listener<K, V>>(
     let Some(handle) = next_of(store, tests, sweep) else {
         return Turn::Ended;
     };
-    if !store.is_settled(handle) {
-        store.move_to_back(handle);
-        return Turn::Passed;
-    }
-    let Some(found) = store.find(handle) else {
-        unreachable!()
+    let cause = match store.find(handle) {
+        Some(found) if found.is_settled() => tests.cause_of(sweep, &found),
+        _ => {
+            store.move_to_back(handle);
+            return Turn::Passed;
+        }
     };
-    let Some(cause) = tests.cause_of(sweep, &found) else {
+    let Some(cause) = cause else {
         return Turn::Ended;
     };
     expel(store, notifier, handle, cause);

@@ -14,14 +14,14 @@ pub fn is_expired_by_per_entry_ttl(expires: Option<Instant>, now: Instant) -> bo
     matches!(expires, Some(moment) if moment <= now)
 }
 
-/// Whether the time to live of an entry written then is over.
+/// Whether the time to live of an entry that was last written at the moment `written` is over.
 /// moka: `sync::base_cache::is_expired_by_ttl`.
 pub fn is_expired_by_ttl(time_to_live: Option<Duration>, written: Instant, now: Instant) -> bool
 {
     is_expired_by_per_entry_ttl(deadline_of(time_to_live, written), now)
 }
 
-/// Whether the time to idle of an entry read then is over.
+/// Whether the time to idle of an entry that was last read at the moment `read` is over.
 /// moka: `sync::base_cache::is_expired_by_tti`.
 pub fn is_expired_by_tti(time_to_idle: Option<Duration>, read: Instant, now: Instant) -> bool
 {

@@ -173,7 +173,7 @@ impl Housekeeper {
         }
     }
 
-    /// Makes a run at a moment, and answers true: nobody else can be running.
+    /// Makes a run at a moment, and returns true: moka returns false if another thread makes one, and here none can.
     pub fn try_run_pending_tasks<T: InnerSync, C: Clock>(
         &mut self,
         cache: &mut T,

@@ -44,7 +44,7 @@ pub struct Invalidator<P> {
 // Written out so that an owner's drop is one call.
 
 impl<P> Invalidator<P> {
-    /// No predicate is registered.
+    /// An empty registry.
     pub fn new(alloc: Global) -> Self
     {
         Invalidator {

@@ -4,8 +4,8 @@ use crate::support::prelude::*;
 
 use crate::support::hash::{BuildHasher, Hash};
 
-/// Names the segment of each key, of a number of segments that never changes: by the upper half of the key's hash.
-/// An index goes by a product of the whole hash, so the keys of one segment still spread over its index.
+/// Names the segment of each key by the upper half of the key's hash; the number of segments never changes. A segment's
+/// own index goes by a product of the whole hash, so the segment's keys still spread over it.
 pub struct Router<S> {
     hasher: S,
     count: u32,
@@ -31,7 +31,7 @@ impl<S> Router<S> {
         &self.hasher
     }
 
-    /// The part of `capacity` that is the segment's at `index`. The parts of all segments sum to it
+    /// The share of `capacity` of the segment at `index`. The shares of all segments sum to `capacity`
     /// (`moka_segment_laws::laws::shares_sum`).
     pub fn share(&self, capacity: u64, index: u32) -> u64
     {
@@ -40,7 +40,7 @@ impl<S> Router<S> {
         capacity / count + u64::from(has_more)
     }
 
-    /// The segment of a key whose hash by this hasher is `hash`.
+    /// The index of the segment of a key whose hash, by this router's hasher, is `hash`.
     pub fn segment_of_hash(&self, hash: u64) -> usize
     {
         place(hash, self.count)
@@ -48,14 +48,14 @@ impl<S> Router<S> {
 }
 
 impl<S: BuildHasher> Router<S> {
-    /// The segment of a key.
+    /// The index of the segment of a key.
     pub fn segment_of<K: Hash>(&self, key: &K) -> usize
     {
         self.segment_of_hash(self.hasher.hash_one(key))
     }
 }
 
-/// The one of a router's segments that a key belongs to, to be written. moka: `select`.
+/// The segment that a key belongs to by the router, borrowed mutably. moka: `select`.
 pub fn select_mut<'a, T, S: BuildHasher, K: Hash>(
     segments: &'a mut Vec<T>,
     router: &Router<S>,

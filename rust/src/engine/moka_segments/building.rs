@@ -22,7 +22,7 @@ impl<
     W: Weigher<K, V>,
     S: BuildHasher + Clone,
 > SegmentedCache<K, V, X, L, P, W, S> {
-    /// An empty cache of as many segments as the router knows, made at the moment `now`. `make` gives the configuration
+    /// An empty cache of as many segments as the router has, made at the moment `now`. `make` gives the configuration
     /// of the segment at each index. If `max_capacity` is set it is shared out among the segments, in place of the
     /// configurations' own, so it should be no less than their number: a segment whose share is 0 keeps nothing.
     ///
@@ -83,8 +83,8 @@ impl<
     P: PredicateFn<K, V>,
     W: Weigher<K, V>,
 > SegmentedCache<K, V, X, L, P, W> {
-    /// As `build_with_router`, with the default hasher, and `count` segments, or one if `count` is 0. Calls of all
-    /// segments, except the sums, recurse once for each, so keep to some thousands.
+    /// As `build_with_router`, with the default hasher, and `count` segments, or one if `count` is 0. Calls that
+    /// concern all segments, except the sums, recurse once per segment, so use at most a few thousand.
     ///
     /// # Errors
     /// As `build_with_router`.

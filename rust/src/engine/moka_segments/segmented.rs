@@ -60,14 +60,14 @@ impl<
         &self.router
     }
 
-    /// The segment at an index.
+    /// The segment at `index`, which must be less than the number of segments (`router().count()`).
     pub fn segment(&self, index: usize) -> &Cache<K, V, X, L, P, W, S>
     {
         &self.segments[index]
     }
 
-    /// The segment at an index, for a call that this cache has none of, as those of entries, for many keys, by a test of
-    /// the key, snapshots and a new capacity:
+    /// The segment at `index`, less than the number of segments, for calls that this cache does not have: entry calls,
+    /// those for many keys or by a test of the key, snapshots, `set_max_capacity`:
     ///
     /// ```text
     /// let own = cache.segment_of(&key);
@@ -93,7 +93,7 @@ impl<
         &self.segments[0]
     }
 
-    /// The segment of a key.
+    /// The index of the segment that a key belongs to.
     pub fn segment_of(&self, key: &K) -> usize
     {
         let _ = &self.segments;
@@ -107,10 +107,10 @@ impl<
         self.segment(index).contains_key(key, now)
     }
 
-    /// Puts a value under a key at the moment `now`. A segment of capacity 0 drops both.
+    /// Puts a value under a key at the moment `now`, in place of one that is there. A segment of capacity 0 drops both.
     ///
     /// # Errors
-    /// `NumbersUsedUp` and `OutOfMemory`, with key and value; nothing has changed.
+    /// `NumbersUsedUp` if too few tickets are left, or `OutOfMemory`. Key and value come back; nothing has changed.
     pub fn insert<C: Clock>(
         &mut self,
         key: K,
@@ -174,8 +174,8 @@ impl<
         self.own_segment(key).invalidate(key, now, clock)
     }
 
-    /// A clone of a key's value, if the key is there and visible at the moment `now`, and else the value that `init`
-    /// makes, which is inserted; a clone of it is handed out. `init` is called only if the key is not there.
+    /// A clone of a key's value, if the key is there and visible at the moment `now`. Otherwise `init` is called, and
+    /// the value that it returns is inserted and a clone of it handed out.
     ///
     /// # Errors
     /// As the synchronous cache's call of this name.
@@ -193,7 +193,7 @@ impl<
         self.own_segment(&key).get_with(key, init, now, clock)
     }
 
-    /// As `get_with`, for a maker that may decline: then nothing is inserted, and `None` is answered.
+    /// As `get_with`, for an `init` that may return `None`: then nothing is inserted, and `None` is returned.
     ///
     /// # Errors
     /// As `get_with`.
@@ -212,7 +212,7 @@ impl<
             .optionally_get_with(key, init, now, clock)
     }
 
-    /// As `get_with`, for a maker that may fail: then nothing is inserted, and its error is answered.
+    /// As `get_with`, for an `init` that may fail: then nothing is inserted, and its error is returned.
     ///
     /// # Errors
     /// The outer error as `get_with`; the inner one is the maker's.

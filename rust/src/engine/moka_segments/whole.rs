@@ -79,8 +79,8 @@ impl<
         )
     }
 
-    /// Invalidates all entries that were written or read before the moment `now`, which replaces that of an earlier
-    /// call.
+    /// Hides all entries that were written or read before the moment `now`; runs of maintenance remove them. This
+    /// moment replaces that of an earlier call.
     pub fn invalidate_all(&mut self, now: Instant)
     {
         invalidate_each(&mut self.segments, now);
@@ -88,8 +88,8 @@ impl<
 
     /// Runs maintenance of each segment in turn, without a time limit. The answer tells whether more is left of any.
     ///
-    /// It leaves count and weight of each segment exactly its entries', and the weight of all within the capacity of
-    /// all. A snapshot of a segment then leaves no visible entry out.
+    /// Afterwards count and weight of each segment are exact, the weight of all is within the capacity of all, and a
+    /// snapshot of a segment leaves no visible entry out.
     pub fn run_pending_tasks<C: Clock>(&mut self, now: Instant, clock: &mut C) -> bool
     {
         run_each(&mut self.segments, now, clock)

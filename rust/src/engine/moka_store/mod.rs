@@ -6,4 +6,4 @@ pub mod store;
 mod timers;
 mod write_list;
 
-pub use store::{Handle, IndexHash, MOST_PLACES, Store, Update};
+pub use store::{Handle, IndexHash, MAX_PLACES, Store, Update};

@@ -6,7 +6,7 @@ use crate::support::prelude::*;
 
 use crate::engine::moka_store::timers::Timers;
 use crate::engine::moka_store::write_list::WriteList;
-pub use changes::MOST_PLACES;
+pub use changes::MAX_PLACES;
 pub use hashing::IndexHash;
 use crate::engine::moka_index::PlaceIndex;
 use crate::engine::moka_records::instant::Instant;
@@ -113,7 +113,7 @@ impl<K: Eq + Hash, V, S: BuildHasher> Store<K, V, S> {
         self.table.number(handle.place) == Some(handle.number)
     }
 
-    /// A new record of a key that has none, under the key's hash. It takes no memory.
+    /// Puts in a new record of a key that has none, under the key's hash. It takes no memory.
     #[inline(always)]
     pub fn insert_new(&mut self, stored: Record<K, V>, hash: IndexHash) -> Handle
     {
@@ -125,7 +125,7 @@ impl<K: Eq + Hash, V, S: BuildHasher> Store<K, V, S> {
         Handle { number, place }
     }
 
-    /// A new value for the record at this handle, with what comes with it, as its next generation. The answer is the
+    /// Gives the record at this handle a new value, with what comes with it, as its next generation, and returns the
     /// old value.
     #[inline(always)]
     pub fn update(&mut self, handle: Handle, update: Update<V>) -> V
@@ -133,7 +133,7 @@ impl<K: Eq + Hash, V, S: BuildHasher> Store<K, V, S> {
         self.table.update(handle.place, update)
     }
 
-    /// The record at this handle was read at this moment, and expires then: as before, unless the read renewed it.
+    /// Notes when the record at this handle was read and, if the read renewed its expiry, when it expires now.
     #[inline(always)]
     pub fn touch(
         &mut self,
@@ -146,7 +146,7 @@ impl<K: Eq + Hash, V, S: BuildHasher> Store<K, V, S> {
         self.table.touch(handle.place, read, expires, is_renewed);
     }
 
-    /// The operation of this generation was applied to the record at this handle.
+    /// Notes that the operation of this generation was applied to the record at this handle.
     #[inline(always)]
     pub fn set_applied(&mut self, handle: Handle, generation: u64)
     {
@@ -163,7 +163,7 @@ impl<K: Eq + Hash, V, S: BuildHasher> Store<K, V, S> {
         IndexHash::of(self.hash(found.key()))
     }
 
-    /// The record at this handle leaves the map, where it is under the hash of its key, and its number stays.
+    /// Takes the record at this handle out of the map, where it is under the hash of its key; its number stays.
     #[inline(always)]
     pub fn take_record(&mut self, handle: Handle, hash: IndexHash) -> Record<K, V>
     {
@@ -186,14 +186,7 @@ impl<K: Eq + Hash, V, S: BuildHasher> Store<K, V, S> {
         self.counted(handle).is_some()
     }
 
-    /// Whether the number at this handle is settled: its record is in the map and saw its newest operation.
-    #[inline(always)]
-    pub fn is_settled(&self, handle: Handle) -> bool
-    {
-        matches!(self.find(handle), Some(found) if found.is_settled())
-    }
-
-    /// The number at this handle comes to the back of both orders, with this weight. It takes no memory.
+    /// Admits the number at this handle, with this weight, at the back of both orders. It takes no memory.
     #[inline(always)]
     pub fn admit(&mut self, handle: Handle, weight: u32)
     {
@@ -244,7 +237,7 @@ impl<K: Eq + Hash, V, S: BuildHasher> Store<K, V, S> {
         self.weight = self.weight - before.counted as u128 + weight as u128;
     }
 
-    /// The number at this handle leaves both orders, and has no timer any more. A cursor there goes on.
+    /// Takes the number at this handle out of both orders, with its timer. A cursor there goes on.
     #[inline(always)]
     pub fn leave(&mut self, handle: Handle)
     {
@@ -261,22 +254,40 @@ impl<K: Eq + Hash, V, S: BuildHasher> Store<K, V, S> {
     #[inline(always)]
     fn clear_timer(&mut self, handle: Handle)
     {
+        if self.timers.are_kept() {
+            self.clear_kept_timer(handle);
+        }
+    }
+
+    // The same where timers are kept.
+    #[inline(always)]
+    fn clear_kept_timer(&mut self, handle: Handle)
+    {
         let timer = self.table.set_timer(handle.place, None);
         let _none = self.timers.set(timer, handle.place as u64, None);
     }
 
-    /// The timer of the number at this handle, if timers are kept, stands at its record's expiry, or is taken out
-    /// if there is none. It takes no memory.
+    /// Sets the timer of the number at this handle, if timers are kept, to its record's expiry, or takes it out if the
+    /// record has none. It takes no memory.
     #[inline(always)]
     pub fn set_timer(&mut self, handle: Handle)
+    {
+        if self.timers.are_kept() {
+            self.set_kept_timer(handle);
+        }
+    }
+
+    // The same where timers are kept. It stands out of line, so that a store without timers has less code.
+    #[inline(never)]
+    fn set_kept_timer(&mut self, handle: Handle)
     {
         let (before, expires) = changes::timing_at(&self.table, handle.place);
         let timer = self.timers.set(before, handle.place as u64, expires);
         let _before = self.table.set_timer(handle.place, timer);
     }
 
-    /// Takes a timer out whose moment is at or before `now`. The answer is whose it was, and None exactly if there
-    /// is none.
+    /// Takes out a timer whose moment is at or before `now`, and returns the handle that it was for; `None` exactly if
+    /// there is no such timer.
     pub fn due(&mut self, now: Instant) -> Option<Handle>
     {
         let due = self.timers.due(now)?;
@@ -300,7 +311,7 @@ impl<K: Eq + Hash, V, S: BuildHasher> Store<K, V, S> {
         Some(changes::handle_at(&self.table, place as usize))
     }
 
-    /// The member at which a scan of the order of writing goes on; none is the front.
+    /// The member at which a scan of the order of writing goes on; `None` stands for the front.
     pub fn cursor(&self) -> Option<Handle>
     {
         let (_, place) = self.written.cursor()?;

@@ -16,7 +16,7 @@ pub(crate) struct Timers {
 // Written out so that an owner's drop is one call.
 
 impl Timers {
-    /// No timers, which are kept or not.
+    /// An empty set of timers; none is ever kept unless `timed` is set.
     pub fn new(alloc: Global, timed: bool) -> Result<Self, AllocError>
     {
         let wheel = if timed {
@@ -25,6 +25,13 @@ impl Timers {
             None
         };
         Ok(Timers { wheel })
+    }
+
+    /// Whether timers are kept. If not, there is none.
+    #[inline(always)]
+    pub fn are_kept(&self) -> bool
+    {
+        self.wheel.is_some()
     }
 
     /// Makes room for so many timers in all, and changes nothing if there is room.
@@ -44,7 +51,7 @@ impl Timers {
         set_in(self.wheel.as_mut()?, before, place, at)
     }
 
-    /// Takes a timer out whose moment is at or before `now`. The answer is None exactly if there is none.
+    /// Takes out a timer whose moment is at or before `now`, and returns it; `None` exactly if there is none.
     pub fn due(&mut self, now: Instant) -> Option<Due>
     {
         self.wheel.as_mut()?.advance(now.0)

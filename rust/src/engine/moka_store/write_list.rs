@@ -19,7 +19,7 @@ pub(crate) struct WriteList {
 // Written out so that an owner's drop is one call.
 
 impl WriteList {
-    /// An empty list, which is kept or not.
+    /// An empty list; no place is ever kept unless `ordered` is set.
     pub fn new(alloc: Global, ordered: bool) -> Result<Self, AllocError>
     {
         let list = if ordered {

@@ -6,7 +6,7 @@ use crate::engine::moka_links::{Node, attach, detach};
 use crate::support::alloc::{AllocError, Global};
 
 // A slot is a `u32`.
-const MOST_NODES: usize = 1 << 32;
+const MAX_NODES: usize = 1 << 32;
 
 // The slot where the ring begins and ends.
 const SENTINEL: u32 = 0;
@@ -98,20 +98,24 @@ impl<T: Copy> OrderList<T> {
         self.len == 0
     }
 
-    /// Makes room for `additional` more values, and changes nothing if there is room. An error leaves the list as it
-    /// was: there is no memory, or the list would be longer than its slots can tell.
+    /// Makes room for `additional` more values, and changes nothing if there is room. If there is too little, the
+    /// values that fit are afterwards at least twice as many as before, or 2^32 - 1, so a list grows seldom as it
+    /// fills. An error leaves the list as it was: there is no memory, or the list would be longer than its slots can
+    /// tell.
     #[inline(always)]
     pub fn reserve(&mut self, additional: usize) -> Result<(), AllocError>
     {
-        let room = self.nodes.capacity().min(MOST_NODES) - 1 - self.len;
+        let room = self.nodes.capacity().min(MAX_NODES) - 1 - self.len;
         if additional <= room {
             return Ok(());
         }
-        if additional > MOST_NODES - 1 - self.len {
+        if additional > MAX_NODES - 1 - self.len {
             return Err(AllocError);
         }
-        let more = additional - (self.nodes.len() - 1 - self.len);
-        self.nodes.reserve(more)
+        let missing = additional - (self.nodes.len() - 1 - self.len);
+        // A vector promises no more than it is asked for.
+        let twice = 2 * self.nodes.capacity() - self.nodes.len();
+        self.nodes.reserve(missing.max(twice))
     }
 
     /// Puts a value behind all others, if there is room. The answer is its slot, which is not 0, and which no

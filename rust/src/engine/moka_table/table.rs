@@ -54,7 +54,7 @@ impl<K, V> RecordTable<K, V> {
         self.rows.len()
     }
 
-    /// How many rows fit with no memory, those that there are among them. Every place is less.
+    /// How many rows fit without asking for memory, present ones included. Every place is less than this.
     pub fn capacity(&self) -> usize
     {
         self.fit
@@ -66,16 +66,19 @@ impl<K, V> RecordTable<K, V> {
         self.cold.len()
     }
 
-    /// Makes room for `additional` more rows, and changes nothing if there is room.
+    /// Makes room for `additional` more rows, and changes nothing if there is room. If there is too little, the rows
+    /// that fit are afterwards at least twice as many as before, or `usize::MAX`, so a table grows seldom as it fills.
     pub fn reserve(&mut self, additional: usize) -> Result<(), AllocError>
     {
         let rows = self.rows.len();
         if self.fit - rows >= additional {
             return Ok(());
         }
-        let more = additional - (self.cold.len() - rows);
+        // A vector promises no more than it is asked for.
+        let wanted = additional.max(self.fit.saturating_mul(2) - rows);
+        let more = wanted - (self.cold.len() - rows);
         self.cold.reserve(more)?;
-        self.rows.reserve(additional)?;
+        self.rows.reserve(wanted)?;
         self.fit = self.rows.capacity().min(self.cold.capacity());
         Ok(())
     }
@@ -135,7 +138,7 @@ impl<K, V> RecordTable<K, V> {
         if own == number { Some(found) } else { None }
     }
 
-    /// The record at this place was read at this moment, and expires then: as before, unless the read renewed it.
+    /// Notes when the record at this place was read and, if the read renewed its expiry, when it expires now.
     #[inline(always)]
     pub fn touch(&mut self, place: usize, read: Instant, expires: Option<Instant>, is_renewed: bool)
     {
@@ -145,7 +148,7 @@ impl<K, V> RecordTable<K, V> {
         }
     }
 
-    /// A new value, with what comes with it, for the record at this place. The answer is the old value.
+    /// Gives the record at this place a new value, with what comes with it, and returns the old value.
     pub fn update(&mut self, place: usize, update: Update<V>) -> V
     {
         let cold = &mut self.cold[place];
@@ -155,7 +158,7 @@ impl<K, V> RecordTable<K, V> {
         self.rows.replace_value(place, update)
     }
 
-    /// The generation that was applied to the record at this place.
+    /// Notes the generation that was applied to the record at this place.
     #[inline(always)]
     pub fn set_applied(&mut self, place: usize, generation: u64)
     {
@@ -192,14 +195,14 @@ impl<K, V> RecordTable<K, V> {
         Some(self.membership(place)?.counted)
     }
 
-    /// Another weight for the member at this place.
+    /// Gives the member at this place another weight.
     #[inline(always)]
     pub fn set_counted(&mut self, place: usize, weight: u32)
     {
         self.cold[place].counted = weight;
     }
 
-    /// The row at this place becomes a member, or gets another membership. The answer is the one that it had.
+    /// Makes the row at this place a member, or gives it another membership, and returns the one that it had.
     #[inline(always)]
     pub fn set_membership(&mut self, place: usize, membership: Membership) -> Option<Membership>
     {
@@ -219,7 +222,7 @@ impl<K, V> RecordTable<K, V> {
         membership::counted_as(counted, old)
     }
 
-    /// Another timer, or none, for the row at this place. The answer is the one that it had.
+    /// Gives the row at this place another timer, or none, and returns the one that it had.
     #[inline(always)]
     pub fn set_timer(&mut self, place: usize, timer: Option<u32>) -> Option<u32>
     {

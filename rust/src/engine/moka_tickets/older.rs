@@ -41,15 +41,18 @@ impl<T: Copy> Older<T> {
         self.table.len() + self.kept.len()
     }
 
-    /// Keeps room for `additional` more items, and changes nothing if there is room. An error takes neither items
-    /// nor room away.
+    /// Keeps room for `additional` more items, and changes nothing if there is room. If there is too little, the room
+    /// is afterwards at least twice what it was, or `usize::MAX`, so it grows seldom. An error takes neither items nor
+    /// room away.
     #[inline(always)]
     pub fn reserve(&mut self, additional: usize) -> Result<(), AllocError>
     {
-        if additional <= self.kept.capacity() - self.kept.len() {
+        let room = self.kept.capacity() - self.kept.len();
+        if additional <= room {
             return Ok(());
         }
-        self.kept.reserve(additional)
+        // A vector promises no more than it is asked for.
+        self.kept.reserve(additional.max(room.saturating_mul(2)))
     }
 
     /// Hands an item out under a ticket above all that are out, if there is room.

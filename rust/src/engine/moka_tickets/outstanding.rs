@@ -48,8 +48,9 @@ impl<T: Copy> Outstanding<T> {
         self.len() == 0
     }
 
-    /// Keeps room for `additional` more items, and changes nothing if there is room. An error takes neither items
-    /// nor room away.
+    /// Keeps room for `additional` more items, and changes nothing if there is room. If there is too little, the room
+    /// is afterwards at least twice what it was, or `usize::MAX`, so it grows seldom. An error takes neither items nor
+    /// room away.
     pub fn reserve(&mut self, additional: usize) -> Result<(), AllocError>
     {
         self.older.reserve(additional)

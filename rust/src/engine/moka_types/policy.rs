@@ -44,7 +44,7 @@ impl Policy {
         self.max_capacity
     }
 
-    /// How many segments the cache has: always 1.
+    /// Always 1, also for a cache in segments, where moka returns how many there are.
     pub fn num_segments(&self) -> usize
     {
         1
@@ -116,7 +116,7 @@ pub trait Expiry<K, V> {
     /// How long an entry that is created now lasts, or `None` if it does not expire by itself.
     fn expire_after_create(&self, key: &K, value: &V, created_at: Instant) -> Option<Duration>;
 
-    /// How long an entry lasts after a read; `duration_until_expiry` is what it has left.
+    /// How long an entry lasts after a read; to answer `duration_until_expiry`, what it has left, changes nothing.
     fn expire_after_read(
         &self,
         key: &K,
@@ -126,8 +126,8 @@ pub trait Expiry<K, V> {
         last_modified_at: Instant,
     ) -> Option<Duration>;
 
-    /// How long an entry lasts after its value was replaced; `duration_until_expiry` is what
-    /// it has left.
+    /// How long an entry lasts after its value was replaced. To answer `duration_until_expiry`, which is what it has
+    /// left, changes nothing.
     fn expire_after_update(
         &self,
         key: &K,

@@ -31,7 +31,7 @@ pub enum RestoreError {
     NoExpiry,
     /// There are not enough tickets left.
     NumbersUsedUp,
-    /// Memory was refused, or a record would need a place of more than 32 bits.
+    /// Memory was refused, or the limit of records, just below 2^32, is reached.
     OutOfMemory,
 }
 

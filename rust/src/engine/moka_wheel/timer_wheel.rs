@@ -54,8 +54,9 @@ impl TimerWheel {
         self.len
     }
 
-    /// Makes room for `additional` more timers, and changes nothing if there is room. It refuses more than 32-bit
-    /// slots can name, as it does for want of memory.
+    /// Makes room for `additional` more timers, and changes nothing if there is room. If there is too little, the
+    /// timers that fit are afterwards at least twice as many as before, or 2^32 - 2049, so a wheel grows seldom as it
+    /// fills. It refuses more than 32-bit slots can name, as it does for want of memory.
     pub fn reserve(&mut self, additional: usize) -> Result<(), AllocError>
     {
         let used = HEADS as usize + self.len;
@@ -63,10 +64,12 @@ impl TimerWheel {
             return Err(AllocError);
         }
         let wanted = used + additional;
-        if wanted <= self.buckets.nodes.capacity() {
+        let fit = self.buckets.nodes.capacity();
+        if wanted <= fit {
             return Ok(());
         }
-        let more = wanted - self.buckets.nodes.len();
+        // A vector promises no more than it is asked for.
+        let more = wanted.max(2 * fit) - self.buckets.nodes.len();
         self.buckets.nodes.reserve(more)
     }
 
@@ -98,7 +101,7 @@ impl TimerWheel {
         number
     }
 
-    /// Takes a timer out whose moment is at or before `now`. The answer is None exactly if there is none.
+    /// Takes out a timer whose moment is at or before `now`, and returns it; `None` exactly if there is none.
     ///
     /// `now` may be earlier than at the last call. Which of several timers comes first is open.
     pub fn advance(&mut self, now: u64) -> Option<Due>

@@ -86,13 +86,13 @@ impl<
         self.cache.policy()
     }
 
-    /// How many entries the last run of maintenance counted.
+    /// How many entries the last run of maintenance counted; 0 before the first run.
     pub fn entry_count(&self) -> u64
     {
         self.cache.entry_count()
     }
 
-    /// The weight that the last run of maintenance counted, saturating.
+    /// The total weight that the last run of maintenance counted, saturating; 0 before the first run.
     pub fn weighted_size(&self) -> u64
     {
         self.cache.weighted_size()
@@ -105,7 +105,7 @@ impl<
         self.cache.contains_key(key, now)
     }
 
-    /// Puts a value under a key. A cache of capacity 0 drops both.
+    /// Puts a value under a key, in place of one that is there. A cache of capacity 0 drops both.
     ///
     /// # Errors
     /// As `Cache::insert`.
@@ -154,9 +154,9 @@ impl<
         self.cache.invalidate(key, now, &mut self.clock)
     }
 
-    /// A clone of a key's value, if the key is there and visible, and else of the value that `init` makes, which is
-    /// inserted. `init` is called only if the key is not there. The entry is inserted at the moment that was read
-    /// before `init` was called, so if that takes longer than the time to live the entry has expired already.
+    /// A clone of a key's value, if the key is there and visible. Otherwise `init` is called, and the value that it
+    /// returns is inserted and a clone of it handed out. The entry is inserted at the moment that was read before
+    /// `init` was called, so if that takes longer than the time to live, the entry has expired already.
     ///
     /// # Errors
     /// As `Cache::get_with`.
@@ -169,7 +169,7 @@ impl<
         self.cache.get_with(key, init, now, &mut self.clock)
     }
 
-    /// As `get_with`, for a maker that may decline: then nothing is inserted, and `None` is answered.
+    /// As `get_with`, for an `init` that may return `None`: then nothing is inserted, and `None` is returned.
     ///
     /// # Errors
     /// As `Cache::get_with`.
@@ -187,7 +187,7 @@ impl<
             .optionally_get_with(key, init, now, &mut self.clock)
     }
 
-    /// As `get_with`, for a maker that may fail: then nothing is inserted, and its error is answered.
+    /// As `get_with`, for an `init` that may fail: then nothing is inserted, and its error is returned.
     ///
     /// # Errors
     /// The outer error as `Cache::get_with`; the inner one is the maker's.
@@ -204,8 +204,8 @@ impl<
         self.cache.try_get_with(key, init, now, &mut self.clock)
     }
 
-    /// Registers a predicate at the clock's moment: what it covers is hidden from now on, and runs of maintenance
-    /// remove it.
+    /// Registers a predicate at the clock's moment. The entries written at that moment or before that it applies to are
+    /// hidden from now on, and runs of maintenance remove them.
     ///
     /// # Errors
     /// As `Cache::invalidate_entries_if`.
@@ -229,7 +229,7 @@ impl<
         self.cache.set_max_capacity(capacity)
     }
 
-    /// Invalidates all entries that were written or read before the clock's moment.
+    /// Hides all entries that were written or read before the clock's moment; runs of maintenance remove them.
     pub fn invalidate_all(&mut self)
     {
         let now = self.clock.now();
@@ -238,8 +238,8 @@ impl<
 
     /// Runs maintenance without a time limit. The answer tells whether more is left.
     ///
-    /// It leaves count and weight exactly the entries', and the weight within the capacity, and each entry is in the
-    /// order of access.
+    /// Afterwards `entry_count` and `weighted_size` are exact, the weight is within the capacity, and a snapshot leaves
+    /// no visible entry out.
     pub fn run_pending_tasks(&mut self) -> bool
     {
         let now = self.clock.now();

@@ -21,7 +21,7 @@ impl<
     W: Weigher<K, V>,
     S: BuildHasher,
 > TimedCache<K, V, C, X, L, P, W, S> {
-    /// Looks up each key, in order, as `get`: what each finds, in the same order.
+    /// Looks up each key, in order, as `get` does; the answers are in the same order.
     ///
     /// # Errors
     /// As `Cache::get_many`.

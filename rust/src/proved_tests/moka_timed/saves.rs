@@ -36,8 +36,8 @@ impl<
         self.cache.save(alloc, now, &mut self.clock)
     }
 
-    /// Puts an entry back whose key has none, with the moments and the expiry that it had, and posts its operation as
-    /// an insert does at the clock's moment. A cache of capacity 0 drops it.
+    /// Puts back an entry whose key has none, with the moments and the expiry that it had, and sends its operation as
+    /// an insert at the clock's moment does. A cache of capacity 0 drops it.
     ///
     /// # Errors
     /// As `Cache::restore_entry`.

@@ -11,10 +11,10 @@ use crate::support::time::Duration;
 /// Users' profiles.
 pub type Profiles<V, C> = TimedCache<u64, V, C, NoExpiry, CountingListener<NoListener>>;
 
-/// No profiles. One that was read stays for the time `lasting`.
+/// An empty cache of profiles. A profile that was read in stays for the time `lasting`.
 ///
 /// # Errors
-/// `OutOfMemory`
+/// `OutOfMemory` if memory for the cache is refused.
 pub fn start<V, C: Clock>(
     alloc: Global,
     lasting: Duration,

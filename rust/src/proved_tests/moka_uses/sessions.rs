@@ -10,10 +10,10 @@ use crate::support::time::Duration;
 /// Users' tokens.
 pub type Sessions<C> = TimedCache<u64, u64, C>;
 
-/// No sessions. A session that is not used for the time `idle` ends.
+/// An empty cache of sessions. A session that is not used for the time `idle` ends.
 ///
 /// # Errors
-/// `OutOfMemory`
+/// `OutOfMemory` if memory for the cache is refused.
 pub fn start<C: Clock>(
     alloc: Global,
     idle: Duration,

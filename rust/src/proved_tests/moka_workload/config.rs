@@ -72,7 +72,8 @@ pub struct Config {
 
 impl Config {
     /// The settings that these bytes say.
-    pub fn read(bytes: &[u8]) -> Config {
+    pub fn read(bytes: &[u8]) -> Config
+    {
         Config {
             max_capacity: optional(bytes, CAPACITY),
             time_to_live: optional(bytes, TIME_TO_LIVE),
@@ -135,7 +136,8 @@ fn additions(bytes: &[u8]) -> u64
 }
 
 // The number at an index, if it does not stand for none.
-fn optional(bytes: &[u8], index: usize) -> Option<u64> {
+fn optional(bytes: &[u8], index: usize) -> Option<u64>
+{
     match word(bytes, index) {
         NONE => None,
         number => Some(number),

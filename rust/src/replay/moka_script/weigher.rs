@@ -6,7 +6,7 @@ use crate::replay::moka_script::word::Word;
 use crate::engine::moka_parts::closures::Weigher;
 
 /// The most digits of a weight.
-const MOST_DIGITS: usize = 10;
+const MAX_DIGITS: usize = 10;
 
 /// A word of one to ten digits weighs the number that it says, if it fits in 32 bits; any other
 /// word weighs 1.
@@ -17,7 +17,7 @@ impl Weigher<u32, Word> for NumberWeigher {
 
     fn weigh(&self, _key: &u32, value: &Word) -> u32 {
         let word = value.as_str();
-        if word.len() > MOST_DIGITS {
+        if word.len() > MAX_DIGITS {
             return 1;
         }
         small_number(word).unwrap_or(1)

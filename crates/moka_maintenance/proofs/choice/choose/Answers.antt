@@ -11,7 +11,7 @@ use Rattle.moka_maintenance.specs.Chosen.{Chooses}
 use Rattle.moka_maintenance.specs.Steps.{contents_with}
 use Rattle.moka_maintenance.proofs.Walking.{Walks, walks-none, walks-settled, walks-unsettled, walks-as, walks-over}
 use Rattle.moka_maintenance.proofs.choice.choose.Goals as goal
-use Rattle.moka_maintenance.proofs.choice.choose.Goals.{then-loop-weights-test+then-frequencies-frequency+else-unsettled-lt-MOST_UNSETTLED, then-loop-weights-test+else-frequencies-frequency, else-loop-weights-test, then-loop-weights-test+then-frequencies-frequency+then-unsettled-lt-MOST_UNSETTLED+in_default}
+use Rattle.moka_maintenance.proofs.choice.choose.Goals.{then-loop-weights-test+then-frequencies-frequency+else-unsettled-lt-MAX_UNSETTLED, then-loop-weights-test+else-frequencies-frequency, else-loop-weights-test, then-loop-weights-test+then-frequencies-frequency+then-unsettled-lt-MAX_UNSETTLED+in_default}
 
 -- what comes next, as a member
 abbrev named : Option (Handle × ℕ) → Option Member
@@ -51,7 +51,7 @@ loop-weights-smaller-in-Some-frequency_of g c =
     let a = member c.in-Some.handle.number c.in-Some.counted in
     let is = ap (λ (s : Kept g.row.K.Denot g.row.V.Denot g.row.S.Denot). is_settled s.records a.number) (sym inv.rest) ∙ c.in-Some-frequency_of.ensures.0 in
     let some = (walks-settled (contents_with c.args.sketch.now c.args.store.now) c.from-weight.result c.args.hash c.invariant_holds.ensures.distinct a inv.walks (ap named c.in-Some.is)
-    c.loop-weights-test.true c.if-unsettled-lt-MOST_UNSETTLED.true (named c.next-next.result) c.next-next.ensures.next is).0 in
+    c.loop-weights-test.true c.if-unsettled-lt-MAX_UNSETTLED.true (named c.next-next.result) c.next-next.ensures.next is).0 in
     let less = c.saturating_sub-ahead.ensures in
     omega arith
 
@@ -63,7 +63,7 @@ loop-weights-preserved-in-Some-frequency_of g c =
     let is = ap (λ (s : Kept g.row.K.Denot g.row.V.Denot g.row.S.Denot). is_settled s.records a.number) (sym inv.rest) ∙ c.in-Some-frequency_of.ensures.0 in
     let seen = c.from.ensures ∙ c.in-Some-frequency_of.ensures.1 c.in-Some.counted ∙ ap (λ (s : Kept g.row.K.Denot g.row.V.Denot g.row.S.Denot). frequency c.args.sketch.now (hash_of (contents_with c.args.sketch.now s) a)) inv.rest in
     let on = walks-settled k c.from-weight.result c.args.hash c.invariant_holds.ensures.distinct a inv.walks (ap named c.in-Some.is)
-    c.loop-weights-test.true c.if-unsettled-lt-MOST_UNSETTLED.true (named c.next-next.result) c.next-next.ensures.next is in
+    c.loop-weights-test.true c.if-unsettled-lt-MAX_UNSETTLED.true (named c.next-next.result) c.next-next.ensures.next is in
     record {
       walks = walks-as k c.from-weight.result c.args.hash c.with_weight-weights.ensures (ap (λ n. c.loop-weights.frequencies + n) seen) c.saturating_sub-ahead.ensures on.1;
       placed = c.next-next.ensures.placed;
@@ -85,7 +85,7 @@ loop-weights-preserved g c =
       walks =
           walks-as k c.from-weight.result c.args.hash refl refl c.saturating_sub-ahead.ensures
           (walks-unsettled k c.from-weight.result c.args.hash c.invariant_holds.ensures.distinct a inv.walks (ap named c.in-Some.is)
-          c.loop-weights-test.true c.if-unsettled-lt-MOST_UNSETTLED.true (named c.next-next.result) c.next-next.ensures.next c.move_in_access.new.self.access moved is);
+          c.loop-weights-test.true c.if-unsettled-lt-MAX_UNSETTLED.true (named c.next-next.result) c.next-next.ensures.next c.move_in_access.new.self.access moved is);
       placed = some_placed c.next-next.result (sym c.move_in_access.ensures.places) c.next-next.ensures.placed;
       member = some_counted c.next-next.result access c.move_in_access.new.self.access c.move_in_access.ensures.counted c.next-next.ensures.member;
       rest = step ∙ ap (λ (s : Kept g.row.K.Denot g.row.V.Denot g.row.S.Denot). record s { access = to_back a.number access }) inv.rest ∙ ap (λ xs. record c.args.store.now { access = xs }) (sym moved);
@@ -109,10 +109,10 @@ returns-else-weights-weight-clause-chosen g c =
     let seen = c.from-frequency.ensures ∙ c.frequency.ensures in
     let not_heavy : nat_le c.from-weight.result l.weights ≡ false = light_by _ _ c.if-weights-weight.false in
     let over : (c.from-weight.result ≤ l.weights) ⊎ ((frequency c.args.sketch.now c.args.hash < l.frequencies) ⊎ ((6 ≤ l.unsettled) ⊎ (named l.next ≡ None))) = elim c.loop-weights-test.branch [
-      | then-loop-weights-test+then-frequencies-frequency+else-unsettled-lt-MOST_UNSETTLED w ↦ inr (inr (inl w.if-unsettled-lt-MOST_UNSETTLED.false))
+      | then-loop-weights-test+then-frequencies-frequency+else-unsettled-lt-MAX_UNSETTLED w ↦ inr (inr (inl w.if-unsettled-lt-MAX_UNSETTLED.false))
       | then-loop-weights-test+else-frequencies-frequency w ↦ inr (inl (subst (λ n. n < l.frequencies) seen w.if-frequencies-frequency.false))
       | else-loop-weights-test w ↦ inl w.loop-weights-test.false
-      | then-loop-weights-test+then-frequencies-frequency+then-unsettled-lt-MOST_UNSETTLED+in_default w ↦ inr (inr (inr (ap named w.in_default.is)))
+      | then-loop-weights-test+then-frequencies-frequency+then-unsettled-lt-MAX_UNSETTLED+in_default w ↦ inr (inr (inr (ap named w.in_default.is)))
     ] in
     subst (Chooses k c.args.weight c.args.hash l.store.access l.victims) (ap (λ b. b && nat_lt l.frequencies (frequency c.args.sketch.now c.args.hash)) not_heavy ∙ sym not_heavy)
     (subst (λ w. Chooses k w c.args.hash l.store.access l.victims (nat_le c.from-weight.result l.weights && nat_lt l.frequencies (frequency c.args.sketch.now c.args.hash))) c.from-weight.ensures

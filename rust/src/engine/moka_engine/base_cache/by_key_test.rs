@@ -24,8 +24,8 @@ impl<
     P: PredicateFn<K, V>,
     W: Weigher<K, V>,
 > BaseCache<K, V, S, X, L, P, W> {
-    /// The hash of a form of a key by the cache's own hasher. It is the key's if both give the hasher the same, as a
-    /// `&str` and a `String` of the same text do.
+    /// The hash of a form of a key, by the cache's own hasher. It equals the key's own hash if both feed the hasher the
+    /// same data, as a `&str` and a `String` of the same text do.
     #[inline(always)]
     pub fn hash_of<Q: Hash>(&self, form: &Q) -> u64
     {

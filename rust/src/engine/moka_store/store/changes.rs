@@ -8,14 +8,14 @@ use crate::engine::moka_records::record_ref::RecordRef;
 use crate::engine::moka_table::RecordTable;
 use crate::support::alloc::AllocError;
 
-/// A place in the index has 32 bits.
-pub const MOST_PLACES: usize = 1 << 32;
+/// How many places there are at most: the index keeps 32 bits of each.
+pub const MAX_PLACES: usize = 1 << 32;
 
 // How many more rows fit with no memory, at places of 32 bits.
 fn row_room<K, V>(table: &RecordTable<K, V>) -> usize
 {
     let (capacity, rows) = (table.capacity(), table.len());
-    if capacity <= MOST_PLACES {
+    if capacity <= MAX_PLACES {
         capacity - rows
     } else {
         0

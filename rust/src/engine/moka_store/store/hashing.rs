@@ -10,8 +10,8 @@ const SPREAD: u64 = 0x9E37_79B9_7F4A_7C15;
 pub struct IndexHash(pub(crate) u32);
 
 impl IndexHash {
-    /// What a store keeps of the hash that its hasher makes of a key. Also hashes that differ in their lower bits alone
-    /// come apart.
+    /// What a store keeps of the hash that its hasher makes of a key. Hashes that differ in their lower bits alone come
+    /// apart too, with few exceptions.
     #[inline(always)]
     pub fn of(hash: u64) -> Self
     {

@@ -1,5 +1,5 @@
 use Rattle.std.proofs.Common.{◌≡◌, false, ◌∙◌, ap, refl, sym, subst, ℕ, Option, Some, None, Ok, Err, true≢false}
-use Rattle.std.specs.Prelude.{IfSome, Result}
+use Rattle.std.specs.Prelude.{IfSome, Result, is_some}
 use Rattle.moka_types.specs.declared.error.OutOfMemory.{OutOfMemory}
 use Rattle.moka_records.specs.Hashing.{key_hash}
 use Rattle.moka_records.proofs.Options.{none_by_test}
@@ -12,6 +12,9 @@ use Rattle.moka_cache.proofs.cache.Cache.compute_with.Goals as goal
 
 same_takes : {K V : Type 0} (a b : Option (V × Result (Unit {0}) OutOfMemory)) → ◌≡◌ {A = Option (Computed K V)} (Some (Takes a)) (Some (Takes b)) → a ≡ b
 same_takes a b e = cc
+
+seen_none : {V : Type 0} (seen : Option V) → ◌≡◌ {A = Result (Option V) OutOfMemory} (Ok seen) (Ok None) → seen ≡ None
+seen_none seen e = cc
 
 pub returns-in_default-clause-step : goal.returns-in_default-clause-step
 returns-in_default-clause-step g c =
@@ -96,3 +99,14 @@ returns-then-is_there-clause-notified g c = λ granted.
 
 pub f-requires : goal.f-requires
 f-requires g c = c.requires.callable c.as_ref.result (rw c.as_ref.ensures.value c.in-Ok.ensures.sees)
+
+pub returns-in_default-clause-disabled : goal.returns-in_default-clause-disabled
+returns-in_default-clause-disabled g c = λ off. let impossible : Err c.in_default.field-0 ≡ Ok None = (c.in_default.ensures.disabled off).0 in absurd (cc)
+
+pub returns-in-Put-clause-disabled : goal.returns-in-Put-clause-disabled
+returns-in-Put-clause-disabled g c = λ off. c.put_computed.ensures.disabled (c.in-Ok.ensures.disabled off).1
+
+pub returns-then-is_there-clause-disabled : goal.returns-then-is_there-clause-disabled
+returns-then-is_there-clause-disabled g c = λ off.
+    let none : c.in-Ok.seen ≡ None = seen_none c.in-Ok.seen (c.in-Ok.ensures.disabled off).0 in
+    absurd (true≢false (sym (sym c.is_some-is_there.ensures ∙ c.if-is_there.true) ∙ ap is_some none))

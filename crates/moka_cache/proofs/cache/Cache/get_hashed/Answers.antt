@@ -5,7 +5,7 @@ use Rattle.moka_calls.specs.Given.{Sees}
 use Rattle.moka_calls.specs.Synchronous.{value_found}
 use Rattle.moka_laws.proofs.Alike.{get_alike, listed_run_alike}
 use Rattle.moka_cache.proofs.Waiting.{none_of_key}
-use Rattle.moka_cache.proofs.Asking.{got, value_copied, value_alone, value_granted, handed_out, seen_shown, unchanged_when_refused}
+use Rattle.moka_cache.proofs.Asking.{got, nothing_found, value_copied, value_alone, value_granted, handed_out, seen_shown, unchanged_when_refused}
 use Rattle.moka_cache.proofs.Keeping.{value_stays}
 use Rattle.moka_cache.proofs.cache.Cache.get_hashed.Goals as goal
 
@@ -47,3 +47,10 @@ pub returns-clause-stays : goal.returns-clause-stays
 returns-clause-stays g c =
     let gets = c.get_with_own_hash-entry.ensures.step in
     rw (← c.self.view_is) (value_stays g.K.PartialEq.eq g.P.PredicateFn.says g.X.Expiry.read c.self.inside.engine.write_list c.get_with_own_hash-entry.new.self.write_list c.self.inside.engine.state c.get_with_own_hash-entry.new.self.state c.invariant_holds.ensures.valid c.args.key.now c.args.hash c.args.now.0 gets.1.0 g.met.K.Eq.laws gets.0 gets.1.1)
+
+pub returns-clause-disabled : goal.returns-clause-disabled
+returns-clause-disabled g c =
+    let s = c.self.inside.engine.state in
+    let gets = c.get_with_own_hash-entry.ensures.step in
+    let none_kept = none_of_key g.K.PartialEq.eq c.args.key.now s c.invariant_holds.ensures.valid.numbered in
+    rw (← c.self.view_is, c.value_of-found.ensures) (nothing_found g.P.PredicateFn.says g.X.Expiry.read (ListedRun g.P.PredicateFn.says g.X.Expiry.read c.self.inside.engine.write_list c.get_with_own_hash-entry.new.self.write_list) g.K.Clone.is_clone g.V.Clone.is_clone s (record_of_key g.K.PartialEq.eq s.records c.args.key.now) none_kept c.args.hash c.args.now.0 gets.0 c.get_with_own_hash-entry.result gets.1.0 c.get_with_own_hash-entry.new.self.state gets.1.1 gets.2)

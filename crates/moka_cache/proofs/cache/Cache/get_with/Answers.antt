@@ -1,6 +1,7 @@
 use Rattle.std.proofs.Common.{rules, of_calls}
+use Rattle.std.specs.Prelude.{⊤}
 use Rattle.moka_records.specs.Hashing.{key_hash}
-use Rattle.moka_cache.specs.Keyed.{IsOfInsert}
+use Rattle.moka_cache.specs.Keyed.{IsOfClone, IsOfInsert}
 use Rattle.moka_cache.proofs.Getting.{always_answers, refused_anyway}
 use Rattle.moka_cache.proofs.cache.Cache.get_with.Goals as goal
 
@@ -13,3 +14,6 @@ returns-clause-step g c =
 
 pub returns-clause-looks_up : goal.returns-clause-looks_up
 returns-clause-looks_up g c = λ granted. refused_anyway IsOfInsert c.always_made.result (rw c.always_made.ensures at (c.try_get_with.ensures.looks_up granted))
+
+pub returns-clause-disabled : goal.returns-clause-disabled
+returns-clause-disabled g c = λ off. refused_anyway (IsOfClone (λ _. ⊤) g.V.Clone.is_infallible) c.always_made.result (rw c.always_made.ensures at (c.try_get_with.ensures.disabled off))

@@ -12,3 +12,11 @@ pub returns-in_err-value-clause-made : goal.returns-in_err-value-clause-made
 returns-in_err-value-clause-made g c =
     let p = err_from_is_err_and c.from_residual.result c.from_residual.ensures.1 in
     rw (p.1, p.2) c.in_err-value.ensures.made
+
+pub returns-in_default-clause-disabled : goal.returns-in_default-clause-disabled
+returns-in_default-clause-disabled g c = λ off both. c.in_default.ensures.cases both.0
+
+pub returns-in_err-value-clause-disabled : goal.returns-in_err-value-clause-disabled
+returns-in_err-value-clause-disabled g c =
+    let p = err_from_is_err_and c.from_residual.result c.from_residual.ensures.1 in
+    rw (p.1, p.2) (λ off both. c.in_err-value.ensures.disabled off (tt, both.1))

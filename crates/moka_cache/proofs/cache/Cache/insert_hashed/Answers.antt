@@ -62,3 +62,7 @@ post-requires-clause-enabled g c =
     let put = c.in_ok-ticket.ensures in
     let out = (insert_hands_out g.X.Expiry.created g.X.Expiry.updated g.W.Weigher.weighs g.K.PartialEq.eq c.self.inside.engine.state c.args.put.key c.args.put.hash c.args.put.value c.args.now (c.in_ok-ticket.ticket, c.in_ok-ticket.field-0-1) put.0 c.do_insert_with_own_hash.new.self.state put.1.1).0 in
     ap is_disabled out.capacity ∙ (sym c.is_map_disabled.ensures ∙ c.if-is_map_disabled.false)
+
+pub returns-in_err-ticket-clause-disabled : goal.returns-in_err-ticket-clause-disabled
+returns-in_err-ticket-clause-disabled g c =
+    rw (← c.self.view_is) (λ off. let impossible : true ≡ false = sym off ∙ (sym c.is_map_disabled.ensures ∙ c.if-is_map_disabled.false) in absurd (cc))

@@ -1,4 +1,4 @@
-use Rattle.std.proofs.Common.{refl, Ok, Err}
+use Rattle.std.proofs.Common.{refl, Ok, Err, sym, true≢false}
 use Rattle.std.proofs.lemmas.Result.{err_from_is_err_and}
 use Rattle.moka_types.specs.declared.error.InsertError.TheVariants as insert_error
 use Rattle.moka_cache.proofs.Getting.{not_cloned, cloned, not_inserted}
@@ -21,3 +21,9 @@ pub returns-in_err-insert_hashed-clause-back : goal.returns-in_err-insert_hashed
 returns-in_err-insert_hashed-clause-back g c =
     let p = err_from_is_err_and c.from_residual.result c.from_residual.ensures.1 in
     rw (p.1, p.2) c.in_err-insert_hashed.ensures.back
+
+pub returns-in_default-clause-disabled : goal.returns-in_default-clause-disabled
+returns-in_default-clause-disabled g c = λ off both. c.in_default.ensures.cases both.1
+
+pub returns-in_err-insert_hashed-clause-disabled : goal.returns-in_err-insert_hashed-clause-disabled
+returns-in_err-insert_hashed-clause-disabled g c = λ off. absurd (true≢false (sym (c.in_err-insert_hashed.ensures.disabled off)))

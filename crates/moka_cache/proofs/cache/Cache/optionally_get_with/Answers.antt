@@ -1,8 +1,9 @@
 use Rattle.std.proofs.Common.{option_map, rules, of_calls}
+use Rattle.std.specs.Prelude.{⊤}
 use Rattle.std.specs.Result.{result_ok}
 use Rattle.moka_records.specs.Hashing.{key_hash}
 use Rattle.moka_calls.specs.Given.{if_made}
-use Rattle.moka_cache.specs.Keyed.{IsOfInsert}
+use Rattle.moka_cache.specs.Keyed.{IsOfClone, IsOfInsert}
 use Rattle.moka_cache.proofs.Getting.{may_decline, refused_if_made}
 use Rattle.moka_cache.proofs.cache.Cache.optionally_get_with.Goals as goal
 
@@ -14,3 +15,6 @@ returns-clause-step g c =
 
 pub returns-clause-looks_up : goal.returns-clause-looks_up
 returns-clause-looks_up g c = λ granted. rw c.if_made.ensures (refused_if_made IsOfInsert c.try_get_with.result (c.try_get_with.ensures.looks_up granted))
+
+pub returns-clause-disabled : goal.returns-clause-disabled
+returns-clause-disabled g c = λ off. rw c.if_made.ensures (refused_if_made (IsOfClone (λ _. ⊤) g.V.Clone.is_infallible) c.try_get_with.result (c.try_get_with.ensures.disabled off))

@@ -1,4 +1,4 @@
-use Rattle.std.proofs.Common.{ℕ, ◌∙◌, refl, rules, sym, subst, Some, Ok, Err, true≢false}
+use Rattle.std.proofs.Common.{◌≡◌, ℕ, ◌∙◌, refl, rules, sym, subst, Some, None, Ok, Err, true≢false}
 use Rattle.std.proofs.lemmas.Result.{err_from_is_err_and}
 use Rattle.moka_records.specs.Hashing.{key_hash}
 use Rattle.moka_cache.proofs.Computing.{upserted}
@@ -25,3 +25,11 @@ returns-in_default-clause-looks_up g c = λ granted. absurd (true≢false (sym (
 
 pub f-value-requires : goal.f-value-requires
 f-value-requires g c = c.requires.callable _ (search rules)
+
+pub returns-in_default-clause-disabled : goal.returns-in_default-clause-disabled
+returns-in_default-clause-disabled g c = λ off. let impossible : Err c.in_default.field-0 ≡ Ok None = (c.in_default.ensures.disabled off).0 in absurd (cc)
+
+pub returns-in_err-insert_entry-clause-disabled : goal.returns-in_err-insert_entry-clause-disabled
+returns-in_err-insert_entry-clause-disabled g c =
+    let p = err_from_is_err_and c.from_residual.result c.from_residual.ensures.1 in
+    rw (p.1, p.2) (λ off. c.in_err-insert_entry.ensures.disabled (c.in-Ok.ensures.disabled off).1)

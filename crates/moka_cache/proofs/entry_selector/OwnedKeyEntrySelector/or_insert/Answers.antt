@@ -37,3 +37,9 @@ pub returns-clause-succeeds : goal.returns-clause-succeeds
 returns-clause-succeeds g c = λ shown granted.
     let none = subst (Sees g.K.PartialEq.eq g.P.PredicateFn.says g.V.Clone.is_clone c.args.self.cache.now.engine.state c.args.self.key c.args.now.0) c.in-Ok-None.field-0-is c.in-Ok-None.ensures.sees in
     absurd (true≢false (sym (seen_found g.K.PartialEq.eq g.P.PredicateFn.says g.V.Clone.is_clone c.args.self.cache.now.engine.state c.args.self.key c.args.now.0 (Ok None) none shown)))
+
+pub returns-in-Err-clause-disabled : goal.returns-in-Err-clause-disabled
+returns-in-Err-clause-disabled g c = λ off. let impossible : Err c.in-Err.field-0 ≡ Ok None = (c.in-Err.ensures.disabled off).0 in absurd (cc)
+
+pub returns-clause-disabled : goal.returns-clause-disabled
+returns-clause-disabled g c = λ off. c.insert_entry.ensures.disabled (c.in-Ok-None.ensures.disabled off).1

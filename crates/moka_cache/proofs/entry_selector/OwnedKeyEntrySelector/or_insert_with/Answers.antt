@@ -1,6 +1,6 @@
 use Rattle.std.proofs.Common.{rules, of_calls}
 use Rattle.moka_records.specs.Hashing.{key_hash}
-use Rattle.moka_cache.specs.Keyed.{IsOfInsert}
+use Rattle.moka_cache.specs.Keyed.{IsOfClone, IsOfInsert}
 use Rattle.moka_cache.proofs.Getting.{refused_anyway}
 use Rattle.moka_cache.proofs.Entries.{always_fresh}
 use Rattle.moka_cache.proofs.entry_selector.OwnedKeyEntrySelector.or_insert_with.Goals as goal
@@ -13,3 +13,6 @@ returns-clause-step g c =
 
 pub returns-clause-looks_up : goal.returns-clause-looks_up
 returns-clause-looks_up g c = λ granted. refused_anyway IsOfInsert c.always_made.result (rw c.always_made.ensures at (c.or_try_insert_with.ensures.looks_up granted))
+
+pub returns-clause-disabled : goal.returns-clause-disabled
+returns-clause-disabled g c = λ off. refused_anyway (IsOfClone g.K.Clone.is_infallible g.V.Clone.is_infallible) c.always_made.result (rw c.always_made.ensures at (c.or_try_insert_with.ensures.disabled off))

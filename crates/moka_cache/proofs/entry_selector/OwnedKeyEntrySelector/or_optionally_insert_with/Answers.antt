@@ -1,6 +1,6 @@
 use Rattle.std.proofs.Common.{rules, of_calls}
 use Rattle.moka_records.specs.Hashing.{key_hash}
-use Rattle.moka_cache.specs.Keyed.{IsOfInsert}
+use Rattle.moka_cache.specs.Keyed.{IsOfClone, IsOfInsert}
 use Rattle.moka_cache.proofs.Getting.{refused_if_made}
 use Rattle.moka_cache.proofs.Entries.{may_be_fresh}
 use Rattle.moka_cache.proofs.entry_selector.OwnedKeyEntrySelector.or_optionally_insert_with.Goals as goal
@@ -12,3 +12,6 @@ returns-clause-step g c =
 
 pub returns-clause-looks_up : goal.returns-clause-looks_up
 returns-clause-looks_up g c = λ granted. rw c.if_made.ensures (refused_if_made IsOfInsert c.or_try_insert_with.result (c.or_try_insert_with.ensures.looks_up granted))
+
+pub returns-clause-disabled : goal.returns-clause-disabled
+returns-clause-disabled g c = λ off. rw c.if_made.ensures (refused_if_made (IsOfClone g.K.Clone.is_infallible g.V.Clone.is_infallible) c.or_try_insert_with.result (c.or_try_insert_with.ensures.disabled off))

@@ -1,4 +1,4 @@
-use Rattle.std.proofs.Common.{ℕ, rules, refl, Some, None, Ok, Err, sym, true≢false}
+use Rattle.std.proofs.Common.{◌≡◌, ℕ, rules, refl, Some, None, Ok, Err, sym, true≢false}
 use Rattle.moka_records.specs.Hashing.{key_hash}
 use Rattle.moka_cache.proofs.Getting.{failed, got_refused, got_value, made_and_handed_out}
 use Rattle.moka_cache.proofs.entry_selector.OwnedKeyEntrySelector.or_try_insert_with.Goals as goal
@@ -38,3 +38,9 @@ returns-in-Err-clause-looks_up g c = λ granted. absurd (true≢false (sym (c.in
 
 pub init-requires : goal.init-requires
 init-requires g c = c.requires.callable (search rules)
+
+pub returns-in-Err-clause-disabled : goal.returns-in-Err-clause-disabled
+returns-in-Err-clause-disabled g c = λ off. let impossible : Err c.in-Err.field-0 ≡ Ok None = (c.in-Err.ensures.disabled off).0 in absurd (cc)
+
+pub returns-in-Err-insert_entry-clause-disabled : goal.returns-in-Err-insert_entry-clause-disabled
+returns-in-Err-insert_entry-clause-disabled g c = λ off. c.in-Err-insert_entry.ensures.disabled (rw c.count_load.ensures (c.in-Ok-None.ensures.disabled off).1)

@@ -1,9 +1,10 @@
 use Rattle.std.proofs.lemmas.Result.{on_ok_weaker}
 use Rattle.std.proofs.Common.{arith, refl}
+use Rattle.moka_structures.proofs.Orders.{length-members}
 use Rattle.moka_structures.proofs.order_list.OrderList.reserve.Goals as goal
 
-pub overflow_sub-more : goal.overflow_sub-more
-overflow_sub-more g c =
+pub overflow_sub-missing : goal.overflow_sub-missing
+overflow_sub-missing g c =
     let i = c.self.invariant in
     omega (arith, i.total)
 
@@ -26,3 +27,8 @@ returns-clause-members g c = rw (c.reserve.ensures.items, ← c.self.view_is) re
 
 pub returns-clause-kept : goal.returns-clause-kept
 returns-clause-kept g c = rw (← c.self.view_is) (omega (arith, c.reserve.ensures.capacity))
+
+pub returns-clause-doubles : goal.returns-clause-doubles
+returns-clause-doubles g c =
+    let members = length-members c.self.invariant in
+    on_ok_weaker c.reserve.result (λ room. rw (c.reserve.ensures.items, ← c.self.view_is) (λ _. omega (arith, room, members, c.reserve.ensures.len, c.max.ensures, c.len-2.ensures, c.capacity-2.ensures))) c.reserve.ensures.ok

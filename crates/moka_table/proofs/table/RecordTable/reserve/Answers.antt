@@ -1,5 +1,6 @@
-use Rattle.std.proofs.Common.{refl, ap, arith, count_by, is_some}
+use Rattle.std.proofs.Common.{◌≡◌, ◌-◌, refl, ap, arith, count_by, is_some}
 use Rattle.std.proofs.lemmas.Result.{IfOk-from_err}
+use Rattle.moka_table.proofs.ColdRows.{count-whole}
 use Rattle.moka_table.proofs.Reserving.{no_less}
 use Rattle.std.proofs.lemmas.List.Sums.{count_by-le-length}
 use Rattle.moka_table.proofs.table.RecordTable.reserve.Goals as goal
@@ -22,6 +23,7 @@ returns-then-self-rows g c = record {
   enough = λ _. refl;
   rows = refl;
   kept = no_less _;
+  doubles = λ little. absurd (omega (arith, c.if-self-rows.true, c.len-rows.ensures.value, rw (← c.self.view_is) at little));
 }
 
 pub returns-in_err-reserve : goal.returns-in_err-reserve
@@ -31,6 +33,7 @@ returns-in_err-reserve g c = record {
   enough = λ fits. absurd (omega (arith, c.if-self-rows.false, c.len-rows.ensures.value, rw (← c.self.view_is) at fits));
   rows = rw (c.reserve.ensures.items, ← c.self.view_is) refl;
   kept = rw (← c.self.view_is) (no_less _);
+  doubles = IfOk-from_err c.from_residual.result _ c.from_residual.ensures.0;
 }
 
 pub returns-in_err-reserve-2 : goal.returns-in_err-reserve-2
@@ -40,6 +43,7 @@ returns-in_err-reserve-2 g c = record {
   enough = λ fits. absurd (omega (arith, c.if-self-rows.false, c.len-rows.ensures.value, rw (← c.self.view_is) at fits));
   rows = rw (c.reserve.ensures.items, c.reserve-2.ensures.rows, ← c.self.view_is) refl;
   kept = rw (c.reserve-2.ensures.rows, ← c.self.view_is) (no_less _);
+  doubles = IfOk-from_err c.from_residual-in_err-reserve-2.result _ c.from_residual-in_err-reserve-2.ensures.0;
 }
 
 pub returns-clause-succeeds : goal.returns-clause-succeeds
@@ -47,3 +51,11 @@ returns-clause-succeeds g c = λ _. refl
 
 pub returns-clause-enough : goal.returns-clause-enough
 returns-clause-enough g c = λ fits. absurd (omega (arith, c.if-self-rows.false, c.len-rows.ensures.value, rw (← c.self.view_is) at fits))
+
+pub returns-clause-doubles : goal.returns-clause-doubles
+returns-clause-doubles g c _ =
+    let before : count_by is_some c.args.self.now.rows ≡ count_by is_some c.self.inside.rows.rows = rw (← c.self.view_is) (count-whole c.self.inside.rows.rows c.self.inside.cold.items) in
+    let room : c.args.self.now.room ≡ c.self.inside.fit - count_by is_some c.self.inside.rows.rows = rw (← c.self.view_is) refl in
+    let after = count-whole c.reserve-2.new.self.rows c.reserve.new.self.items in
+    let rows = ap (count_by is_some) c.reserve-2.ensures.rows in
+    omega (arith, before, room, after, rows, count_by-le-length is_some c.self.inside.rows.rows, c.in_ok-reserve.ensures.ok, c.in_ok-reserve-2.ensures.room)

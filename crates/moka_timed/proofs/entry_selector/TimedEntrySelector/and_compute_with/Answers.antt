@@ -8,3 +8,6 @@ returns-clause-looks_up g c = rw (c.entry.ensures.key, c.entry.ensures.unchanged
 
 pub returns-clause-notified : goal.returns-clause-notified
 returns-clause-notified g c = rw c.entry.ensures.unchanged at c.and_compute_with.ensures.notified
+
+pub returns-clause-disabled : goal.returns-clause-disabled
+returns-clause-disabled g c = rw c.entry.ensures.unchanged at c.and_compute_with.ensures.disabled

@@ -1,6 +1,7 @@
 use Rattle.std.proofs.Common.{◌≡◌, arith, sym, ap, ◌∙◌, refl, subst, Option, Some, None, IfNone}
 use Rattle.std.proofs.lemmas.List.{get_or_read}
 use Rattle.moka_wheel.specs.Nodes.{Node, blank, behinds}
+use Rattle.moka_wheel.proofs.Frames.{keeps-trans}
 use Rattle.moka_wheel.proofs.Sound.{all-later, any-later, behind-read}
 use Rattle.moka_wheel.proofs.buckets.Buckets.due.Goals as goal
 
@@ -11,6 +12,15 @@ if-none (Some x) P Q f p = p
 pub returns-then-now-self-clause-none : goal.returns-then-now-self-clause-none
 returns-then-now-self-clause-none c =
     if-none c.overdue.result _ _ (λ none i t. any-later _ _ _ c.args.now i c.requires t c.if-now-self.true (λ e. none i t e)) c.overdue.ensures.none
+
+pub loop-self-preserved : goal.loop-self-preserved
+loop-self-preserved c = record {
+  placed = c.step.ensures.placed;
+  keeps = keeps-trans _ c.loop-self.self.nodes.items _ c.loop-self.invariant.keeps c.step.ensures.keeps;
+  capacity = c.step.ensures.capacity ∙ c.loop-self.invariant.capacity;
+  forward = omega (arith, c.loop-self.invariant.forward, c.if-not-step.ensures.moved refl);
+  late = c.step.ensures.at_most;
+}
 
 pub returns-then-not-step-clause-none : goal.returns-then-not-step-clause-none
 returns-then-not-step-clause-none c i t =

@@ -18,3 +18,7 @@ returns-clause-moved c _ =
     let at = part-within (c.in-Some.bucket / 256) (start c.args.self.now.moment c.in-Some.bucket) c.start_of-start.result c.min.result c.span_of.result c.start_of-start.ensures c.span_of.ensures (omega (arith, c.min.ensures, c.span_of.ensures, pow_pos (8 * (c.in-Some.bucket / 256)))) in
     let r = reach c.args.self.now.moment _ c.in-Some.bucket (c.requires.placed.ahead c.in-Some.bucket c.in-Some.ensures.within (λ e. omega (arith, c.in-Some.ensures.within)) c.in-Some.ensures.marked) at in
     omega (arith, r.later, c.spread.ensures.moment)
+
+pub returns-clause-far : goal.returns-clause-far
+returns-clause-far c _ =
+    (c.in-Some.bucket, c.in-Some.ensures.marked, omega (arith, c.spread.ensures.moment, c.start_of-start.ensures, c.span_of.ensures, c.min.ensures, pow_pos (8 * (c.in-Some.bucket / 256))))

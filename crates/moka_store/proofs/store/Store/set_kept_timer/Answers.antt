@@ -15,7 +15,7 @@ use Rattle.moka_store.specs.Timing.{Timing}
 use Rattle.moka_store.specs.StoreRows.{member_at}
 use Rattle.moka_store.specs.Weights.{IsWeighed}
 use Rattle.moka_store.specs.StoreTies.{AreNarrow}
-use Rattle.moka_store.proofs.store.Store.set_timer.Goals as goal
+use Rattle.moka_store.proofs.store.Store.set_kept_timer.Goals as goal
 
 pub set-timer-requires : goal.set-timer-requires
 set-timer-requires g c =
