@@ -3,6 +3,12 @@
 use std::sync::Arc;
 
 /// A key with its value, as a call of an entry found or left it. moka: `Entry`.
+///
+/// ```
+/// let cache = ravulemis::sync::Cache::new(100);
+/// let entry = cache.entry("key").or_insert_with(|| 7);
+/// assert_eq!((*entry.key(), *entry.value(), entry.is_fresh()), ("key", 7, true));
+/// ```
 #[derive(Debug)]
 pub struct Entry<K, V> {
     pub(crate) key: Arc<K>,
@@ -103,6 +109,19 @@ impl<K, V> Entry<K, V> {
 }
 
 /// What is to be done with an entry. moka: `ops::compute::Op`.
+///
+/// ```
+/// use ravulemis::ops::compute::Op;
+/// let stock = ravulemis::sync::Cache::new(100);
+/// stock.insert("tea", 2);
+/// let sell = || stock.entry("tea").and_compute_with(|left| match left.map(|left| left.into_value()) {
+///     None => Op::Nop,
+///     Some(1) => Op::Remove,
+///     Some(left) => Op::Put(left - 1),
+/// });
+/// (sell(), assert_eq!(stock.get("tea"), Some(1)));
+/// (sell(), assert_eq!(stock.get("tea"), None));
+/// ```
 #[derive(Clone, Copy, Debug, PartialEq, Eq)]
 pub enum Op<V> {
     /// Nothing.
@@ -115,6 +134,16 @@ pub enum Op<V> {
 
 /// What was done with an entry. Whether there was one is what the closure saw: an `insert`, a `remove` or a call that
 /// puts a missing value there may come between in another thread. moka: `ops::compute::CompResult`.
+///
+/// ```
+/// use ravulemis::ops::compute::{CompResult, Op};
+/// let cache = ravulemis::sync::Cache::new(100);
+/// match cache.entry(1).and_compute_with(|_| Op::Put('a')) {
+///     CompResult::Inserted(entry) => assert_eq!(entry.into_value(), 'a'),
+///     other => unreachable!("{other:?}"),
+/// }
+/// assert!(matches!(cache.entry(2).and_compute_with(|_| Op::Remove), CompResult::StillNone(_)));
+/// ```
 #[derive(Debug)]
 pub enum CompResult<K, V> {
     /// There was none, and now there is this.

@@ -1,6 +1,6 @@
 //! Values that are being made: one maker for all that wait on a key.
 
-use crate::notices::{Awaited, locked};
+use crate::notices::{Awaited, Waits, locked};
 use std::any::{Any, TypeId};
 use std::sync::{Arc, Condvar, Mutex, MutexGuard, PoisonError};
 use std::thread::{self, ThreadId};
@@ -91,7 +91,9 @@ impl<K, V> Default for Makers<K, V> {
 pub(crate) struct Ending<'a, K, V> {
     makers: &'a Makers<K, V>,
     making: Arc<Making<K, V>>,
+    // In this order: when none waits for this thread it makes the waits that it has left out.
     _awaited: Awaited,
+    _waits: Waits,
 }
 
 impl<'a, K, V> Ending<'a, K, V> {
@@ -101,6 +103,7 @@ impl<'a, K, V> Ending<'a, K, V> {
             makers,
             making,
             _awaited,
+            _waits: Waits,
         }
     }
 

@@ -9,7 +9,7 @@ use std::collections::VecDeque;
 use std::mem::{self, ManuallyDrop};
 use std::panic::{AssertUnwindSafe, catch_unwind, resume_unwind};
 use std::sync::atomic::{AtomicBool, Ordering};
-use std::sync::{Arc, Condvar, Mutex, MutexGuard, PoisonError};
+use std::sync::{Arc, Condvar, Mutex, MutexGuard, PoisonError, Weak};
 use std::{iter, thread};
 
 /// The caller's listener.
@@ -25,7 +25,7 @@ pub(crate) fn locked<T>(mutex: &Mutex<T>) -> MutexGuard<'_, T> {
 // With so many notices waiting a caller that put one there waits for room or its turn to tell them, so that a slow
 // listener is not left behind.
 const MAX_WAITING: usize = 1024;
-// After so many notices a thread hands its turn on, if another waits for it.
+// After so many notices a thread hands its turn on to the next that puts one there, which waits for it.
 const MAX_IN_TURN: usize = 256;
 
 thread_local! {
@@ -33,6 +33,8 @@ thread_local! {
     static IS_AWAITED: Cell<bool> = const { Cell::new(false) };
     // There while the thread ends too, so nothing drops it: it has no memory but while a listener is called.
     static TELLING: RefCell<ManuallyDrop<Telling>> = const { RefCell::new(ManuallyDrop::new(Telling::NONE)) };
+    // The same holds of this: it has no memory but while a wait is left out.
+    static LEFT_OUT: RefCell<ManuallyDrop<LeftOut>> = const { RefCell::new(ManuallyDrop::new(LeftOut::NONE)) };
 }
 
 /// Whose listener this thread is calling: that of a cache, which has this address, within those of the outer ones.
@@ -85,12 +87,82 @@ impl Telling {
 
 /// Tells the notices of a shard of a cache, which has this address, and then of each for which this is called from
 /// within the listener meanwhile: so that is never called within itself. Telling must not panic.
-pub(crate) fn tell_in_turn(cache: usize, shard: usize, tell: impl Fn(usize)) {
+fn tell_in_turn(cache: usize, shard: usize, tell: impl Fn(usize)) {
     if TELLING.with_borrow_mut(|telling| telling.begins(cache, shard)) {
         tell(shard);
         while let Some(shard) = TELLING.with_borrow_mut(|telling| telling.go_on(cache)) {
             tell(shard);
         }
+        make_waits();
+    }
+}
+
+/// The shards of a cache whose notices a thread may have to wait for.
+trait Tells {
+    fn tell(self: Arc<Self>, shard: usize);
+}
+
+/// For which shards of which caches this thread has not waited since it was awaited.
+struct LeftOut {
+    waits: Vec<(Weak<dyn Tells>, usize)>,
+    // How many of them are made, while they are. What is left out meanwhile is made too, but none twice: listeners of
+    // caches that call each other would keep this thread.
+    made: Option<usize>,
+}
+
+impl LeftOut {
+    const NONE: Self = LeftOut {
+        waits: Vec::new(),
+        made: None,
+    };
+
+    fn note(&mut self, cache: Weak<dyn Tells>, shard: usize) {
+        let is_noted = |(other, its): &(Weak<dyn Tells>, usize)| *its == shard && other.ptr_eq(&cache);
+        if !self.waits.iter().any(is_noted) {
+            self.waits.push((cache, shard));
+        }
+    }
+
+    #[inline]
+    fn begins(&mut self) -> bool {
+        let begins = self.made.is_none() && !self.waits.is_empty();
+        if begins {
+            self.made = Some(0);
+        }
+        begins
+    }
+
+    fn go_on(&mut self) -> Option<(Weak<dyn Tells>, usize)> {
+        let made = self.made.unwrap_or(0);
+        let next = self.waits.get(made).cloned();
+        match next {
+            Some(_) => self.made = Some(made + 1),
+            None => *self = LeftOut::NONE,
+        }
+        next
+    }
+}
+
+/// Makes the waits that this thread has left out, unless it is still in a listener or a maker: so a slow listener is
+/// not left behind by makers either. It tells notices too if the turn is free or comes to it.
+#[inline]
+pub(crate) fn make_waits() {
+    if IS_AWAITED.get() || !LEFT_OUT.with_borrow_mut(|left_out| left_out.begins()) {
+        return;
+    }
+    while let Some((cache, shard)) = LEFT_OUT.with_borrow_mut(|left_out| left_out.go_on()) {
+        if let Some(cache) = cache.upgrade() {
+            cache.tell(shard);
+        }
+    }
+}
+
+/// Makes the waits when it is dropped.
+pub(crate) struct Waits;
+
+impl Drop for Waits {
+    fn drop(&mut self) {
+        make_waits();
     }
 }
 
@@ -170,6 +242,8 @@ struct Queue<K, V> {
     waiting: VecDeque<Notice<K, V>>,
     // Whether a thread has the turn to tell.
     is_taken: bool,
+    // Whether it has told so many that the next may have the turn.
+    is_offered: bool,
     // How many threads wait for a change.
     blocked: usize,
 }
@@ -179,6 +253,7 @@ impl<K, V> Notices<K, V> {
         let queue = Mutex::new(Queue {
             waiting: VecDeque::new(),
             is_taken: false,
+            is_offered: false,
             blocked: 0,
         });
         Notices {
@@ -199,9 +274,9 @@ impl<K, V> Notices<K, V> {
     }
 
     /// Notifies the listener of what waits. If another thread does that, it goes on with these; if the listener itself
-    /// made the call, they follow the notice that it is given now.
-    pub fn deliver(&self) {
-        let Some(mut queue) = self.take_turn() else {
+    /// made the call, they follow the notice that it is given now. A wait that this thread may not make is left out.
+    pub fn deliver(&self, leave_out: impl FnOnce()) {
+        let Some(mut queue) = self.take_turn(leave_out) else {
             return;
         };
         let mut told = 0;
@@ -213,12 +288,13 @@ impl<K, V> Notices<K, V> {
             if queue.waiting.len() + 1 == MAX_WAITING && queue.blocked > 0 {
                 self.changed.notify_all();
             }
+            told += 1;
+            queue.is_offered = told >= MAX_IN_TURN;
             drop(queue);
             self.tell(notice);
-            told += 1;
             queue = locked(&self.queue);
         }
-        queue.is_taken = false;
+        (queue.is_taken, queue.is_offered) = (false, false);
         if queue.waiting.is_empty() && queue.waiting.capacity() > MAX_WAITING {
             queue.waiting = VecDeque::new();
         }
@@ -228,10 +304,15 @@ impl<K, V> Notices<K, V> {
     }
 
     // Takes the turn to tell, or leaves the notices to the thread that has it.
-    fn take_turn(&self) -> Option<MutexGuard<'_, Queue<K, V>>> {
+    fn take_turn(&self, leave_out: impl FnOnce()) -> Option<MutexGuard<'_, Queue<K, V>>> {
         let mut queue = locked(&self.queue);
         while queue.is_taken {
-            if IS_AWAITED.get() || queue.waiting.len() < MAX_WAITING {
+            if queue.waiting.len() < MAX_WAITING && !queue.is_offered {
+                return None;
+            }
+            if IS_AWAITED.get() {
+                drop(queue);
+                leave_out();
                 return None;
             }
             queue.blocked += 1;
@@ -258,6 +339,46 @@ impl<K, V> Notices<K, V> {
             // Its drop may panic too.
             mem::forget(panic);
         }
+    }
+}
+
+/// The notices of all shards of a cache. No two shards share a cache line.
+pub(crate) struct AllNotices<K, V>(Box<[OfShard<K, V>]>);
+
+#[repr(align(128))]
+struct OfShard<K, V>(Notices<K, V>);
+
+impl<K, V> AllNotices<K, V> {
+    pub fn new(listener: &Told<K, V>, shards: usize) -> Self {
+        let has_panicked = Arc::default();
+        let notices = || OfShard(Notices::new(Arc::clone(listener), Arc::clone(&has_panicked)));
+        AllNotices(iter::repeat_with(notices).take(shards).collect())
+    }
+
+    pub fn of(&self, shard: usize) -> &Notices<K, V> {
+        &self.0[shard].0
+    }
+}
+
+impl<K: 'static, V: 'static> AllNotices<K, V> {
+    /// Notifies the listener of what left a shard, or if this thread is in it, when it has returned.
+    pub fn tell(self: &Arc<Self>, shard: usize) {
+        tell_in_turn(Arc::as_ptr(self).addr(), shard, |shard| {
+            self.of(shard).deliver(|| {
+                let weak = Arc::downgrade(self);
+                LEFT_OUT.with_borrow_mut(|left_out| left_out.note(weak, shard));
+            });
+        });
+    }
+}
+
+impl<K: 'static, V: 'static> Tells for AllNotices<K, V> {
+    // If the cache has gone meanwhile what waits goes here. A panic of its drop is nobody's.
+    fn tell(self: Arc<Self>, shard: usize) {
+        AllNotices::tell(&self, shard);
+        let mut panic = None;
+        drop_caught(self, &mut panic);
+        mem::forget(panic);
     }
 }
 
@@ -335,9 +456,38 @@ mod tests {
             first: notice(0),
             more: (1..5000).map(notice).collect(),
         });
-        notices.deliver();
+        notices.deliver(|| ());
         let queue = locked(&notices.queue);
         assert!(queue.waiting.is_empty() && queue.waiting.capacity() <= MAX_WAITING);
+    }
+
+    #[test]
+    fn a_wait_that_is_left_out_is_made_once() {
+        let notices = || {
+            Arc::new(AllNotices::<u32, u32>::new(
+                &(Arc::new(|_, _, _| {}) as Told<u32, u32>),
+                2,
+            ))
+        };
+        let (one, other) = (notices(), notices());
+        let mut left_out = LeftOut::NONE;
+        let note = |left_out: &mut LeftOut, it: &Arc<AllNotices<u32, u32>>, shard| {
+            let weak = Arc::downgrade(it);
+            left_out.note(weak, shard);
+        };
+        assert!(!left_out.begins());
+        for shard in [1, 0, 1] {
+            note(&mut left_out, &one, shard);
+        }
+        assert!(left_out.begins() && !left_out.begins());
+        let mut made = Vec::new();
+        while let Some((_, shard)) = left_out.go_on() {
+            made.push(shard);
+            note(&mut left_out, &one, shard);
+            note(&mut left_out, &other, 1);
+        }
+        assert_eq!(made, [1, 0, 1]);
+        assert!(!left_out.begins() && Arc::weak_count(&one) == 0);
     }
 
     #[test]

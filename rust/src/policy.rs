@@ -161,38 +161,43 @@ pub trait Expiry<K, V> {
     }
 }
 
-// So a shared or boxed `dyn Expiry` is one.
-impl<K, V, T> Expiry<K, V> for T
-where
-    T: Deref<Target = dyn Expiry<K, V> + Send + Sync>,
-{
-    fn expire_after_create(&self, key: &K, value: &V, created_at: Instant) -> Option<Duration> {
-        self.deref().expire_after_create(key, value, created_at)
-    }
+/// That of what is behind a pointer. For each pointer by itself: for all at once it would be in the way of a caller's
+/// own, of an `Arc` or `Box` of a type of theirs.
+macro_rules! behind {
+    ($pointer:ty) => {
+        impl<K, V> Expiry<K, V> for $pointer {
+            fn expire_after_create(&self, key: &K, value: &V, created_at: Instant) -> Option<Duration> {
+                self.deref().expire_after_create(key, value, created_at)
+            }
 
-    fn expire_after_read(
-        &self,
-        key: &K,
-        value: &V,
-        read_at: Instant,
-        duration_until_expiry: Option<Duration>,
-        last_modified_at: Instant,
-    ) -> Option<Duration> {
-        self.deref()
-            .expire_after_read(key, value, read_at, duration_until_expiry, last_modified_at)
-    }
+            fn expire_after_read(
+                &self,
+                key: &K,
+                value: &V,
+                read_at: Instant,
+                duration_until_expiry: Option<Duration>,
+                last_modified_at: Instant,
+            ) -> Option<Duration> {
+                self.deref()
+                    .expire_after_read(key, value, read_at, duration_until_expiry, last_modified_at)
+            }
 
-    fn expire_after_update(
-        &self,
-        key: &K,
-        value: &V,
-        updated_at: Instant,
-        duration_until_expiry: Option<Duration>,
-    ) -> Option<Duration> {
-        self.deref()
-            .expire_after_update(key, value, updated_at, duration_until_expiry)
-    }
+            fn expire_after_update(
+                &self,
+                key: &K,
+                value: &V,
+                updated_at: Instant,
+                duration_until_expiry: Option<Duration>,
+            ) -> Option<Duration> {
+                self.deref()
+                    .expire_after_update(key, value, updated_at, duration_until_expiry)
+            }
+        }
+    };
 }
+
+behind!(Arc<dyn Expiry<K, V> + Send + Sync>);
+behind!(Box<dyn Expiry<K, V> + Send + Sync>);
 
 /// The limits of a cache. moka: `Policy`.
 ///
@@ -267,9 +272,10 @@ pub struct Stats {
     pub hits: u64,
     /// Look-ups that found none, also those that then waited for another's load. Hits and misses are all look-ups.
     pub misses: u64,
-    /// Values that were made by `get_with` and its like, and put there.
+    /// Values that were made by `get_with` and its like, also those for which there was no room, as in a cache of
+    /// capacity 0.
     pub loads: u64,
-    /// Loads that put no value there: the maker gave none, by `None` or an error, or something panicked.
+    /// Loads that gave no value: the maker gave none, by `None` or an error, or something panicked.
     pub load_failures: u64,
     /// Values that left because their time was over.
     pub expired: u64,

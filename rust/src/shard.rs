@@ -119,9 +119,11 @@ pub(crate) struct Visits {
 }
 
 impl Visits {
-    /// Those of so many shards. None is due if there is one alone, or if nothing can expire.
-    pub fn new(is_timed: bool, shards: u32) -> Self {
-        let every = if is_timed && shards > 1 {
+    /// Those of so many shards. None is due if there is one alone. Also where nothing can expire values are hidden, by
+    /// `invalidate_all` and predicates; there a shard looks whether one is due when it reads the clock, so that this
+    /// costs other calls nothing.
+    pub fn new(shards: u32) -> Self {
+        let every = if shards > 1 {
             QUIET / u64::from(shards)
         } else {
             u64::MAX

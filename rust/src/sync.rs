@@ -42,6 +42,13 @@ use std::sync::Arc;
 use std::sync::atomic::{AtomicU64, Ordering};
 
 /// Names a predicate that was registered.
+///
+/// ```
+/// use ravulemis::sync::{Cache, PredicateId};
+/// let cache = Cache::<u32, u32>::builder().support_invalidation_closures().build();
+/// let hide = |least| -> PredicateId { cache.invalidate_entries_if(move |key, _| *key >= least).unwrap() };
+/// assert_ne!(hide(10), hide(20));
+/// ```
 pub type PredicateId = String;
 
 // A hash for the router, which goes by the upper half: a hasher of the caller's may leave that empty. The factor is
@@ -71,12 +78,18 @@ struct Shared<K: 'static, V, S> {
 /// The listener is called after the lock is released, in the order in which values left the shard, by the thread by
 /// whose call they left, or by another that is notifying already. So it may call the cache: of what leaves by that it
 /// is notified when it has returned, so a thread never calls it within itself. It must not wait for another thread that
-/// calls the cache: if 1,024 notices are pending, that one may wait for it. Nor may it put back each value that leaves
-/// with `Size`: another leaves for it, so the call never ends. A call by which nothing left neither calls the listener
-/// nor waits for it. If a maker or a closure of an entry calls the cache, the listener may be called within it: then it
-/// must not have a value made or computed for that key, nor for one whose maker or closure may wait for that key. If
-/// the listener may have a value made or computed for a key, the maker or closure of that key must not wait for another
-/// thread that calls the cache: that one may wait for the listener, and the listener for the maker or closure.
+/// calls the cache: if 1,024 notices are pending, or one thread has told 256, that one may wait for it. Nor may it put
+/// back each value that leaves with `Size`: another leaves for it, so the call never ends. A call by which nothing left
+/// neither calls the listener nor waits for it. If a maker or a closure of an entry calls the cache, the listener may
+/// be called within it: then it must not have a value made or computed for that key, nor for one whose maker or closure
+/// may wait for that key. If the listener may have a value made or computed for a key, the maker or closure of that key
+/// must not wait for another thread that calls the cache: that one may wait for the listener, and the listener for the
+/// maker or closure.
+///
+/// In a listener, a maker or a closure of an entry no call waits for a listener. When the outermost of them has ended,
+/// its call waits instead, also for the listeners of other caches that were called within it. So a slow listener holds
+/// back who puts entries there in makers, but by no more than a maker at a time: what one maker, or one call of a
+/// listener, lets leave waits in memory.
 ///
 /// Of what left by the look-up of `and_upsert_with`, `and_compute_with` or `and_try_compute_with` the call notifies the
 /// listener when the closure has returned, if no other has: the closure must not wait for what that frees. Without a
@@ -152,7 +165,7 @@ where
         Cache::builder().max_capacity(max_capacity).build()
     }
 
-    /// What builds a cache of these types.
+    /// What builds a cache of these types. [`CacheBuilder`] says what an empty one takes.
     ///
     /// ```
     /// use ravulemis::{EvictionPolicy, sync::Cache};
@@ -359,6 +372,10 @@ where
     /// Hides all values that are there and to which the predicate says yes. They leave in later runs of maintenance,
     /// and the predicate with them: until then look-ups ask it too, and the run that comes to the end of a shard asks it
     /// about that shard's entries until one is covered, under the lock. It has to answer equal arguments equally.
+    ///
+    /// A run asks all predicates that are registered about each entry that it looks at. So many of them at once on a
+    /// large cache make one call take long, with 500 on a million entries of one shard seconds: let one predicate ask
+    /// for many things, for example whether a set has the key.
     ///
     /// # Errors
     /// `InvalidationClosuresDisabled` if the cache was built without `support_invalidation_closures`; `OutOfMemory` if

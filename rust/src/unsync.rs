@@ -14,7 +14,7 @@ mod iter;
 pub use entry::{EntrySelector, RefKeyEntrySelector};
 pub use iter::Iter;
 
-use crate::notices::{Notices, locked};
+use crate::notices::{Notices, locked, make_waits};
 use crate::settings::{Settings, setters};
 use crate::shard::{Shard, Visits};
 use crate::{Entry, EvictionPolicy, Expiry, Policy, PredicateError, RemovalCause, Stats};
@@ -25,6 +25,13 @@ use std::sync::{Arc, Mutex};
 use std::time::{Duration, Instant};
 
 /// Names a predicate that was registered.
+///
+/// ```
+/// use ravulemis::unsync::{Cache, PredicateId};
+/// let mut cache = Cache::<u32, u32>::builder().support_invalidation_closures().build();
+/// let mut hide = |least| -> PredicateId { cache.invalidate_entries_if(move |key, _| *key >= least).unwrap() };
+/// assert_ne!(hide(10), hide(20));
+/// ```
 pub type PredicateId = String;
 
 /// A bounded cache with one owner. It is `Send` if keys, values and the hasher are.
@@ -61,7 +68,8 @@ impl<K, V> Call<'_, K, V> {
         match self.notices {
             Some(notices) => {
                 notices.put(left);
-                notices.deliver();
+                notices.deliver(|| ());
+                make_waits();
             }
             None => left.drop_each(),
         }
@@ -151,7 +159,10 @@ impl<K: Eq + Hash + Sync + 'static, V: Clone + 'static> CacheBuilder<K, V> {
     /// cache.remove(&1);
     /// assert_eq!(left.recv(), Ok((1, 'a')));
     /// ```
-    pub fn eviction_listener(mut self, listener: impl FnMut(Arc<K>, V, RemovalCause) + Send + 'static) -> Self {
+    pub fn eviction_listener<F>(mut self, listener: F) -> Self
+    where
+        F: FnMut(Arc<K>, V, RemovalCause) + Send + 'static,
+    {
         let listener = Mutex::new(listener);
         self.settings.listener = Some(Arc::new(move |key, value, cause| locked(&listener)(key, value, cause)));
         self
@@ -188,7 +199,7 @@ impl<K: Eq + Hash + Sync + 'static, V: Clone + 'static> CacheBuilder<K, V> {
             .map(|listener| Notices::new(listener, Arc::default()));
         let capacity = settings.max_capacity;
         Cache {
-            shard: Shard::new(settings.clone(), capacity, Visits::new(false, 1), Instant::now()),
+            shard: Shard::new(settings.clone(), capacity, Visits::new(1), Instant::now()),
             notices,
             hasher,
             settings,
@@ -361,7 +372,10 @@ impl<K: Eq + Hash + Sync + 'static, V: Clone + 'static, S: BuildHasher> Cache<K,
     /// assert_eq!(cache.optionally_get_with(1, || None), None);
     /// assert_eq!(cache.optionally_get_with(1, || Some('a')), Some('a'));
     /// ```
-    pub fn optionally_get_with(&mut self, key: K, init: impl FnOnce() -> Option<V>) -> Option<V> {
+    pub fn optionally_get_with<F>(&mut self, key: K, init: F) -> Option<V>
+    where
+        F: FnOnce() -> Option<V>,
+    {
         let entry = self.entry(key).or_optionally_insert_with(init)?;
         Some(entry.into_value())
     }
@@ -372,8 +386,9 @@ impl<K: Eq + Hash + Sync + 'static, V: Clone + 'static, S: BuildHasher> Cache<K,
     /// let mut cache = ravulemis::unsync::Cache::<String, u32>::new(100);
     /// assert_eq!(cache.optionally_get_with_by_ref("key", || "7".parse().ok()), Some(7));
     /// ```
-    pub fn optionally_get_with_by_ref<Q>(&mut self, key: &Q, init: impl FnOnce() -> Option<V>) -> Option<V>
+    pub fn optionally_get_with_by_ref<F, Q>(&mut self, key: &Q, init: F) -> Option<V>
     where
+        F: FnOnce() -> Option<V>,
         K: Borrow<Q>,
         Q: Eq + Hash + ToOwned<Owned = K> + ?Sized,
     {
@@ -494,7 +509,8 @@ impl<K: Eq + Hash + Sync + 'static, V: Clone + 'static, S: BuildHasher> Cache<K,
     }
 
     /// Hides all values that are there and to which the predicate says yes. They leave in later runs of maintenance,
-    /// and the predicate with them. It has to answer equal arguments equally.
+    /// and the predicate with them. It has to answer equal arguments equally. A run asks all predicates that are
+    /// registered about each entry that it looks at, so many of them at once on a large cache make one call take long.
     ///
     /// # Errors
     /// `InvalidationClosuresDisabled` if the cache was built without `support_invalidation_closures`; `OutOfMemory` if

@@ -65,6 +65,8 @@ static int wrong_settings(void) {
   CHECK(ravulemis_create(&settings, NULL) == RAVULEMIS_BAD_ARGUMENT);
   CHECK(refused((ravulemis_settings){.is_bounded = 2}) == RAVULEMIS_BAD_ARGUMENT);
   CHECK(refused((ravulemis_settings){.is_bounded = -1}) == RAVULEMIS_BAD_ARGUMENT);
+  /* A capacity of a cache without a bound. */
+  CHECK(refused((ravulemis_settings){.max_capacity = 100}) == RAVULEMIS_BAD_ARGUMENT);
   CHECK(refused((ravulemis_settings){.policy = 2}) == RAVULEMIS_BAD_ARGUMENT);
   CHECK(refused((ravulemis_settings){.weigher = 3}) == RAVULEMIS_BAD_ARGUMENT);
   CHECK(refused((ravulemis_settings){.weigher = -1}) == RAVULEMIS_BAD_ARGUMENT);

@@ -31,11 +31,12 @@ enum ravulemis_code {
   /* The buffer is too small. Its first bytes are filled, and the whole length is told. */
   RAVULEMIS_TRUNCATED = 2,
   /* A pointer is null that must not be, or not null that must be; a key is empty, a length exceeds PTRDIFF_MAX, a name
-     is not UTF-8, or a setting is none of those named below. */
+     is not UTF-8, a setting is none of those named below, or there is a capacity without a bound. */
   RAVULEMIS_BAD_ARGUMENT = -1,
   /* The cache was destroyed. */
   RAVULEMIS_DESTROYED = -2,
-  /* A fault of the library's own. The shard of the key may be emptied by the next call for it. */
+  /* A fault of the library's own: a panic of Rust's, whose message goes to standard error. The shard of the key may be
+     emptied by the next call for it. */
   RAVULEMIS_FAULT = -3,
   /* The cache was created without `supports_predicates`. */
   RAVULEMIS_UNSUPPORTED = -4
@@ -64,7 +65,8 @@ enum ravulemis_event { RAVULEMIS_CREATED = 0, RAVULEMIS_UPDATED = 1, RAVULEMIS_R
 
 /* Is told of each value that leaves, by the thread by whose call it left or by another that is notifying already;
    `cause` is one of `enum ravulemis_cause`. It may call the cache, and is told of what leaves by that when it has
-   returned; but it must not wait for another thread that does: if 1,024 notices are pending, that one may wait for it.
+   returned; but it must not wait for another thread that does: if 1,024 notices are pending, or the thread that calls
+   it has told 256, that one may wait for it.
    Nor may it put back each value that leaves with RAVULEMIS_SIZE: another leaves for it, so the call never ends. */
 typedef void (*ravulemis_listener)(void *context, const void *key, size_t key_length, const void *value,
                                    size_t value_length, int32_t cause);
@@ -95,7 +97,8 @@ typedef void (*ravulemis_drop)(void *context);
    settings of Rust's builder one is missing, the hasher: keys are hashed with a random seed, so that nobody can choose
    ones that collide. */
 typedef struct ravulemis_settings {
-  /* Whether there is a bound, 0 or 1, and the greatest total weight; with 0 nothing is kept, weighed or timed. */
+  /* Whether there is a bound, 0 or 1, and the greatest total weight, `max_capacity`, which has to be 0 without a bound.
+     With a bound of 0 nothing is kept, weighed or timed. */
   int32_t is_bounded;
   /* One of `enum ravulemis_policy`. */
   int32_t policy;
@@ -103,15 +106,18 @@ typedef struct ravulemis_settings {
   /* One of `enum ravulemis_weigher`. */
   int32_t weigher;
   /* The number of shards, rounded up to a power of two, at most 65536, and no more than the capacity; 0 lets the
-     library choose. Each has its share of the capacity: an entry that weighs more than a share is not kept. Each asks
-     the allocator for about 30 KB, also empty, of which about 11 KB are touched at first. */
+     library choose: 1 with a weigher, else up to 64, and 64 without a bound. Each has its share of the capacity: an
+     entry that weighs more than a share is not kept. Each asks the allocator for about 30 KB, also empty, of which
+     about 11 KB are touched at first. */
   uint32_t shards;
   /* The number of entries that room is made for at once, at most 2^24. */
   uint64_t initial_capacity;
   /* How long an entry stays after it was written, and after it was written or read; 0 for always. */
   uint64_t time_to_live;
   uint64_t time_to_idle;
-  /* May be null. The context is the caller's, and has to outlive the cache and the calls for it; so do those below. */
+  /* May be null. The context is the caller's, and has to outlive the cache and the calls for it; so do those below.
+     This one also has to outlive calls for other caches whose listeners call this cache: at their end they may wait for
+     this listener, and call it. */
   ravulemis_listener listener;
   void *context;
   /* May be null. UTF-8 with a NUL at its end, which is copied, for `ravulemis_name` to tell. */
@@ -137,8 +143,8 @@ int32_t ravulemis_settings_default(ravulemis_settings *settings);
    Errors: RAVULEMIS_BAD_ARGUMENT; RAVULEMIS_FAULT if there is no memory for the initial capacity. */
 int32_t ravulemis_create(const ravulemis_settings *settings, ravulemis_cache **cache);
 
-/* Drops all entries; the listener is not notified of them. A few bytes stay, by which a later call for the cache is
-   recognised. Errors: RAVULEMIS_BAD_ARGUMENT, and RAVULEMIS_DESTROYED for the second call. */
+/* Drops all entries; the listener is not notified of them. A few bytes stay until the program ends, by which a later
+   call for the cache is recognised. Errors: RAVULEMIS_BAD_ARGUMENT, and RAVULEMIS_DESTROYED for the second call. */
 int32_t ravulemis_destroy(ravulemis_cache *cache);
 
 /* Puts a copy of a value under a copy of a key of at least one byte. A value of no bytes may have a null pointer.
@@ -174,7 +180,8 @@ int32_t ravulemis_invalidate_all(ravulemis_cache *cache);
 
 /* Hides all values that are there and to which the predicate says yes, which leave later. The cache has to be created
    with `supports_predicates`. Later calls, by whatever thread, ask the predicate about values that are older than this
-   call, until maintenance has found none left that it hides; `ravulemis_run_pending_tasks` sees to that. Then, or when
+   call, until maintenance has found none left that it hides; `ravulemis_run_pending_tasks` sees to that. (Each of them
+   is asked about each entry, so many predicates at once on a large cache make one call take seconds.) Then, or when
    the cache goes (if its capacity is 0, before this call returns), the context is dropped: `drop_context` is called with
    it once. It may be null: then the context has to outlive the cache and the calls for it. If this call is refused, the
    context is dropped before it returns. Errors: RAVULEMIS_BAD_ARGUMENT, RAVULEMIS_DESTROYED, RAVULEMIS_UNSUPPORTED;

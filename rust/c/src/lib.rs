@@ -9,8 +9,9 @@ use ravulemis::sync::Cache;
 use settings::{Settings, built};
 use std::ffi::{CStr, c_char, c_void};
 use std::panic::{AssertUnwindSafe, catch_unwind};
+use std::ptr;
 use std::slice::from_raw_parts;
-use std::sync::{Arc, PoisonError, RwLock};
+use std::sync::{Arc, Mutex, PoisonError, RwLock};
 
 type Bytes = Arc<[u8]>;
 
@@ -24,6 +25,9 @@ const UNSUPPORTED: i32 = -4;
 
 /// A cache until it is destroyed. It stays in memory afterwards, so that a later call is told.
 pub struct Handle(RwLock<Option<Cache<Vec<u8>, Bytes>>>);
+
+// All that were ever made. What is kept on purpose would be a leak to a checker, if nothing pointed to it.
+static HANDLES: Mutex<Vec<&Handle>> = Mutex::new(Vec::new());
 
 #[repr(C)]
 pub struct Counts {
@@ -117,7 +121,9 @@ pub unsafe extern "C" fn ravulemis_create(settings: *const Settings, cache: *mut
         }
         let name = unsafe { text(settings.name) }?;
         let made = Handle(RwLock::new(Some(built(settings, name)?)));
-        unsafe { cache.write(Box::into_raw(Box::new(made))) };
+        let made: &Handle = Box::leak(Box::new(made));
+        HANDLES.lock().unwrap_or_else(PoisonError::into_inner).push(made);
+        unsafe { cache.write(ptr::from_ref(made).cast_mut()) };
         Ok(OK)
     })
 }
@@ -332,4 +338,19 @@ pub extern "C" fn ravulemis_message(code: i32) -> *const c_char {
         _ => c"no code of the library",
     };
     text.as_ptr()
+}
+
+#[cfg(test)]
+mod tests {
+    use super::*;
+    use std::ptr::null_mut;
+
+    #[test]
+    fn a_handle_stays_reachable() {
+        let (settings, mut cache) = (Settings::default(), null_mut());
+        assert_eq!(unsafe { ravulemis_create(&settings, &mut cache) }, OK);
+        assert_eq!(unsafe { ravulemis_destroy(cache) }, OK);
+        let handles = HANDLES.lock().unwrap();
+        assert!(handles.iter().any(|kept| ptr::eq(*kept, cache)));
+    }
 }

@@ -89,8 +89,11 @@ fn sized(mut builder: Builder, settings: &Settings) -> Result<Builder, i32> {
     if settings.shards > MAX_SHARDS || settings.initial_capacity > MAX_INITIAL {
         return Err(BAD_ARGUMENT);
     }
-    if is_set(settings.is_bounded)? {
-        builder = builder.max_capacity(settings.max_capacity);
+    match (is_set(settings.is_bounded)?, settings.max_capacity) {
+        (true, most) => builder = builder.max_capacity(most),
+        (false, 0) => (),
+        // Without a word the cache would grow without end.
+        (false, _) => return Err(BAD_ARGUMENT),
     }
     if settings.shards > 0 {
         builder = builder.shards(settings.shards as usize);

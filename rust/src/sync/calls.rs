@@ -1,40 +1,42 @@
 //! Calls of the shards, and what is done when the lock of one is released.
 
 use crate::making::Makers;
-use crate::notices::{Left, Notices, locked, tell_in_turn};
+use crate::notices::{AllNotices, Left, locked};
 use crate::shard::Shard;
 use std::hash::Hash;
 use std::mem::ManuallyDrop;
-use std::ptr;
 use std::sync::atomic::{AtomicUsize, Ordering};
-use std::sync::{Mutex, MutexGuard, TryLockError};
+use std::sync::{Arc, Mutex, MutexGuard, TryLockError};
 use std::thread;
 
-/// A shard, what is being made for it, and the notices that its listener still waits for. No two shards share a cache
-/// line.
+/// A shard, and what is being made for it. No two shards share a cache line.
 #[repr(align(128))]
 pub(super) struct Place<K: 'static, V> {
     pub index: usize,
     pub shard: Mutex<Shard<K, V>>,
     pub makers: Makers<K, V>,
-    pub notices: Option<Notices<K, V>>,
 }
 
 /// All shards.
 pub(super) struct Places<K: 'static, V> {
     pub all: Box<[Place<K, V>]>,
+    // What the listener is still to be notified of, if there is one.
+    notices: Option<Arc<AllNotices<K, V>>>,
     // How many visits there were.
     visited: AtomicUsize,
 }
 
 impl<K, V> Places<K, V> {
-    pub fn new(all: Box<[Place<K, V>]>) -> Self {
-        let visited = AtomicUsize::new(0);
-        Places { all, visited }
+    pub fn new(all: Box<[Place<K, V>]>, notices: Option<AllNotices<K, V>>) -> Self {
+        Places {
+            all,
+            notices: notices.map(Arc::new),
+            visited: AtomicUsize::new(0),
+        }
     }
 }
 
-impl<K: Eq + Hash, V: Clone> Places<K, V> {
+impl<K: Eq + Hash, V: Clone + 'static> Places<K, V> {
     /// Calls for one of them.
     #[inline]
     pub fn calls<'a>(&'a self, place: &'a Place<K, V>) -> Calls<'a, K, V> {
@@ -43,15 +45,6 @@ impl<K: Eq + Hash, V: Clone> Places<K, V> {
             place,
             rest: ManuallyDrop::new(None),
         }
-    }
-
-    // Notifies the listener of what left a shard, or if this thread is in it, when it has returned.
-    fn tell(&self, index: usize) {
-        tell_in_turn(ptr::from_ref(self).addr(), index, |index| {
-            if let Some(notices) = &self.all[index].notices {
-                notices.deliver();
-            }
-        });
     }
 
     // Lets what is due in the next shard leave, if no calls for it do. One whose lock is held has a call.
@@ -69,7 +62,7 @@ impl<K: Eq + Hash, V: Clone> Places<K, V> {
 
 /// Calls for a shard. At their end, which may be a panic, the listener is notified of what left by them; without a
 /// listener that is dropped. No lock of the cache is held then.
-pub(super) struct Calls<'a, K: Eq + Hash + 'static, V: Clone> {
+pub(super) struct Calls<'a, K: Eq + Hash + 'static, V: Clone + 'static> {
     places: &'a Places<K, V>,
     place: &'a Place<K, V>,
     // `finish` drops it. The end of a call by which nothing left is a test, and no call.
@@ -95,7 +88,7 @@ impl<K, V> Default for Rest<K, V> {
     }
 }
 
-impl<'a, K: Eq + Hash, V: Clone> Calls<'a, K, V> {
+impl<'a, K: Eq + Hash, V: Clone + 'static> Calls<'a, K, V> {
     /// Makes a call under the lock of the shard.
     #[inline]
     pub fn make<R>(&mut self, call: impl FnOnce(&mut Shard<K, V>) -> R) -> R {
@@ -111,7 +104,7 @@ impl<'a, K: Eq + Hash, V: Clone> Calls<'a, K, V> {
 
     /// Drops what left by them, unless a listener is to be notified of it: that waits for their end.
     pub fn drop_left(&mut self) {
-        if self.place.notices.is_none() && self.rest.is_some() {
+        if self.places.notices.is_none() && self.rest.is_some() {
             self.finish();
         }
     }
@@ -124,9 +117,9 @@ impl<'a, K: Eq + Hash, V: Clone> Calls<'a, K, V> {
         let Some(left) = shard.take_left() else {
             return;
         };
-        match (&self.place.notices, &mut rest.left) {
+        match (&self.places.notices, &mut rest.left) {
             (Some(notices), _) => {
-                notices.put(left);
+                notices.of(self.place.index).put(left);
                 rest.is_telling = true;
             }
             (None, Some(before)) => before.append(left),
@@ -137,8 +130,8 @@ impl<'a, K: Eq + Hash, V: Clone> Calls<'a, K, V> {
     #[cold]
     fn finish(&mut self) {
         let rest = self.rest.take().unwrap_or_default();
-        if rest.is_telling {
-            self.places.tell(self.place.index);
+        if let (true, Some(notices)) = (rest.is_telling, &self.places.notices) {
+            notices.tell(self.place.index);
         }
         if let Some(left) = rest.left {
             left.drop_each();
@@ -150,7 +143,7 @@ impl<'a, K: Eq + Hash, V: Clone> Calls<'a, K, V> {
     }
 }
 
-impl<K: Eq + Hash, V: Clone> Drop for Calls<'_, K, V> {
+impl<K: Eq + Hash, V: Clone + 'static> Drop for Calls<'_, K, V> {
     // A call by which nothing left neither runs the listener nor waits for it.
     #[inline]
     fn drop(&mut self) {
@@ -161,12 +154,12 @@ impl<K: Eq + Hash, V: Clone> Drop for Calls<'_, K, V> {
 }
 
 /// A shard whose lock is held by a call.
-struct Held<'a, 'b, K: Eq + Hash + 'static, V: Clone> {
+struct Held<'a, 'b, K: Eq + Hash + 'static, V: Clone + 'static> {
     shard: MutexGuard<'a, Shard<K, V>>,
     calls: &'b mut Calls<'a, K, V>,
 }
 
-impl<K: Eq + Hash, V: Clone> Drop for Held<'_, '_, K, V> {
+impl<K: Eq + Hash, V: Clone + 'static> Drop for Held<'_, '_, K, V> {
     #[inline]
     fn drop(&mut self) {
         if self.shard.has_rest() {

@@ -270,7 +270,10 @@ macro_rules! calls {
         /// };
         /// assert_eq!((count(&cache), count(&cache)), (1, 2));
         /// ```
-        pub fn and_upsert_with(self, f: impl FnOnce(Option<Entry<K, V>>) -> V) -> Entry<K, V> {
+        pub fn and_upsert_with<F>(self, f: F) -> Entry<K, V>
+        where
+            F: FnOnce(Option<Entry<K, V>>) -> V,
+        {
             let answer = self.and_compute_with(|there| Op::Put(f(there)));
             always(answer.into_entry())
         }
@@ -293,7 +296,10 @@ macro_rules! calls {
         /// let answer = cache.entry_by_ref(&1).and_compute_with(|_| Op::Remove);
         /// assert!(matches!(answer, CompResult::Removed(_)));
         /// ```
-        pub fn and_compute_with(self, f: impl FnOnce(Option<Entry<K, V>>) -> Op<V>) -> CompResult<K, V> {
+        pub fn and_compute_with<F>(self, f: F) -> CompResult<K, V>
+        where
+            F: FnOnce(Option<Entry<K, V>>) -> Op<V>,
+        {
             let Ok(answer) = self.and_try_compute_with(|there| Ok::<_, Infallible>(f(there)));
             answer
         }

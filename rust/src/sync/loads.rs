@@ -140,6 +140,8 @@ where
     /// If the key is inserted, removed or invalidated while its value is being made, what is made is put there all the
     /// same, and replaces what was inserted meanwhile.
     ///
+    /// If the maker calls a cache whose listener falls behind, this call waits for that at its end, as [`Cache`] says.
+    ///
     /// # Panics
     /// If the maker panics, or asks for its own key by a call of this kind. It may call the cache otherwise, but two
     /// makers must not wait for each other, nor one for another thread that calls the cache, if the listener may ask
@@ -179,7 +181,10 @@ where
     /// assert_eq!(cache.optionally_get_with(1, || Some('a')), Some('a'));
     /// assert_eq!(cache.get(&1), Some('a'));
     /// ```
-    pub fn optionally_get_with(&self, key: K, init: impl FnOnce() -> Option<V>) -> Option<V> {
+    pub fn optionally_get_with<F>(&self, key: K, init: F) -> Option<V>
+    where
+        F: FnOnce() -> Option<V>,
+    {
         let outcome = self.get_or_load(key, TypeId::of::<Optionally>(), || made_or_nothing(init()));
         value_of(outcome)
     }
@@ -190,8 +195,9 @@ where
     /// let cache = ravulemis::sync::Cache::<String, u32>::new(100);
     /// assert_eq!(cache.optionally_get_with_by_ref("key", || "7".parse().ok()), Some(7));
     /// ```
-    pub fn optionally_get_with_by_ref<Q>(&self, key: &Q, init: impl FnOnce() -> Option<V>) -> Option<V>
+    pub fn optionally_get_with_by_ref<F, Q>(&self, key: &Q, init: F) -> Option<V>
     where
+        F: FnOnce() -> Option<V>,
         K: Borrow<Q>,
         Q: Eq + Hash + ToOwned<Owned = K> + ?Sized,
     {

@@ -8,7 +8,7 @@ use ravulemis::sync::Cache;
 use std::cell::Cell;
 use std::collections::HashMap;
 use std::panic::{AssertUnwindSafe, RefUnwindSafe, UnwindSafe, catch_unwind};
-use std::sync::atomic::{AtomicU32, Ordering};
+use std::sync::atomic::{AtomicU32, AtomicU64, Ordering};
 use std::sync::{Arc, Mutex, OnceLock, mpsc};
 use std::thread::{self, ThreadId};
 use std::time::{Duration, Instant};
@@ -167,6 +167,124 @@ fn the_turn_to_tell_goes_on_to_one_who_waits_for_it() {
     let second = waits.join().unwrap();
     let told = told.lock().unwrap();
     assert!(told.contains_key(&second), "one thread told all that waited");
+}
+
+thread_local! {
+    // Whether this is the thread that was the first to notify.
+    static IS_FIRST: Cell<bool> = const { Cell::new(false) };
+}
+
+/// How many notices a cache has, of what was replaced, that its listener was not told.
+fn pending(cache: &OnceLock<Cache<u32, u64>>, told: &AtomicU64) -> u64 {
+    let replaced = cache.get().map_or(0, |cache| cache.stats().replaced);
+    replaced.saturating_sub(told.load(Ordering::SeqCst))
+}
+
+#[test]
+fn a_call_tells_its_turn_and_no_more_while_others_put_notices_there() {
+    const ALL: u64 = 3000;
+    static OWN: OnceLock<Cache<u32, u64>> = OnceLock::new();
+    static TOLD: AtomicU64 = AtomicU64::new(0);
+    static BY_FIRST: AtomicU32 = AtomicU32::new(0);
+    let listener = |_, _, _| {
+        TOLD.fetch_add(1, Ordering::SeqCst);
+        if IS_FIRST.get() {
+            count(&BY_FIRST);
+            // Another comes before this has returned, unless its thread waits for the turn.
+            let start = Instant::now();
+            while pending(&OWN, &TOLD) == 0 && start.elapsed() < Duration::from_millis(200) {
+                thread::yield_now();
+            }
+        }
+    };
+    let cache = OWN.get_or_init(|| Cache::builder().shards(1).eviction_listener(listener).build());
+    cache.insert(1, 0);
+    let others = thread::spawn(|| {
+        while TOLD.load(Ordering::SeqCst) == 0 {
+            thread::yield_now();
+        }
+        for value in 0..ALL {
+            while pending(&OWN, &TOLD) > 50 {
+                thread::yield_now();
+            }
+            cache.insert(1, value);
+        }
+    });
+    IS_FIRST.set(true);
+    cache.insert(1, ALL);
+    let told = BY_FIRST.load(Ordering::SeqCst);
+    others.join().unwrap();
+    assert!((1..1000).contains(&told), "one insert told {told}");
+    assert_eq!(TOLD.load(Ordering::SeqCst), ALL + 1);
+}
+
+#[test]
+fn who_put_notices_there_in_a_maker_waits_after_it() {
+    const CALLS: u64 = 1500;
+    static OWN: OnceLock<Cache<u32, u64>> = OnceLock::new();
+    static TOLD: AtomicU64 = AtomicU64::new(0);
+    let listener = |_, _, _| {
+        TOLD.fetch_add(1, Ordering::SeqCst);
+        let start = Instant::now();
+        // As long as the makers go on, or a while.
+        while IS_FIRST.get() && pending(&OWN, &TOLD) < CALLS && start.elapsed() < Duration::from_millis(1) {
+            thread::yield_now();
+        }
+    };
+    let cache = OWN.get_or_init(|| Cache::builder().shards(1).eviction_listener(listener).build());
+    cache.insert(1, 0);
+    let first = thread::spawn(|| {
+        IS_FIRST.set(true);
+        cache.insert(1, 1);
+    });
+    while TOLD.load(Ordering::SeqCst) == 0 {
+        thread::yield_now();
+    }
+    let users = Cache::<u64, u64>::new(10_000);
+    let call = |key| {
+        users.get_with(key, || {
+            cache.insert(1, key);
+            key
+        });
+        pending(&OWN, &TOLD)
+    };
+    let most = (0..CALLS).map(call).max();
+    first.join().unwrap();
+    assert!(most <= Some(1025), "{most:?} notices waited");
+    assert_eq!(TOLD.load(Ordering::SeqCst), CALLS + 1);
+}
+
+#[test]
+fn makers_and_listeners_of_caches_that_call_each_other_end() {
+    const CALLS: u64 = 2000;
+    static CACHES: [OnceLock<Cache<u32, u64>>; 2] = [const { OnceLock::new() }; 2];
+    static TOLD: AtomicU64 = AtomicU64::new(0);
+    for (index, cache) in CACHES.iter().enumerate() {
+        let listener = move |_, left, _| {
+            TOLD.fetch_add(1, Ordering::SeqCst);
+            if left > 0 {
+                CACHES[1 - index].get().unwrap().insert(1, left - 1);
+            }
+        };
+        cache.get_or_init(|| Cache::builder().shards(1).eviction_listener(listener).build());
+    }
+    let call = |number: usize| {
+        let users = Cache::<u64, u64>::new(10_000);
+        for key in 0..CALLS {
+            let cache = CACHES[number % 2].get().unwrap();
+            users.get_with(key, || {
+                cache.insert(1, 3);
+                key
+            });
+        }
+    };
+    let calls = move || {
+        let threads: Vec<_> = (0..4).map(|number| thread::spawn(move || call(number))).collect();
+        threads.into_iter().for_each(|thread| thread.join().unwrap());
+    };
+    assert!(ends(calls));
+    let replaced = CACHES.iter().map(|cache| cache.get().unwrap().stats().replaced).sum();
+    assert_eq!(TOLD.load(Ordering::SeqCst), replaced, "a notice was kept back");
 }
 
 #[test]
@@ -371,6 +489,31 @@ fn what_has_expired_leaves_while_only_another_shard_is_called() {
         looks,
         "a visit is no look-up"
     );
+}
+
+#[test]
+fn what_was_invalidated_leaves_while_only_another_shard_is_called() {
+    type Hides = fn(&Cache<u32, Arc<()>>, Arc<()>);
+    let ways: [(&str, Hides); 2] = [
+        ("invalidate_all", |cache, _| cache.invalidate_all()),
+        ("invalidate_entries_if", |cache, captured| {
+            let predicate = move |_: &u32, _: &Arc<()>| Arc::strong_count(&captured) > 0;
+            drop(cache.invalidate_entries_if(predicate).unwrap());
+        }),
+    ];
+    for (name, hide) in ways {
+        let builder = Cache::<u32, _>::builder().shards(4);
+        let cache = builder.support_invalidation_closures().build();
+        let (value, captured) = (Arc::new(()), Arc::new(()));
+        (0..100).for_each(|key| cache.insert(key, Arc::clone(&value)));
+        hide(&cache, Arc::clone(&captured));
+        let start = Instant::now();
+        let kept = || Arc::strong_count(&value) + Arc::strong_count(&captured) > 2;
+        while kept() && start.elapsed() < Duration::from_secs(10) {
+            cache.get(&1);
+        }
+        assert!(!kept(), "{name}");
+    }
 }
 
 #[test]

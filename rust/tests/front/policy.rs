@@ -1,8 +1,9 @@
 //! What a cache tells of its limits, and what it has counted.
 
-use ravulemis::{Policy, Stats, sync, unsync};
+use ravulemis::{Expiry, Policy, Stats, sync, unsync};
 use std::iter;
-use std::time::Duration;
+use std::sync::Arc;
+use std::time::{Duration, Instant};
 
 fn counters(stats: &mut Stats) -> [&mut u64; 8] {
     [
@@ -91,4 +92,46 @@ fn policies_with_the_same_limits_are_equal() {
     for (name, other) in others {
         assert_ne!(policy(other), limits, "{name}");
     }
+}
+
+/// A key of the caller's, so that expiries for it may be behind pointers of std.
+#[derive(PartialEq, Eq, Hash)]
+struct Named(u32);
+
+struct Once;
+
+impl Expiry<Named, char> for Once {
+    fn expire_after_create(&self, _: &Named, _: &char, _: Instant) -> Option<Duration> {
+        Some(Duration::ZERO)
+    }
+}
+
+impl Expiry<Named, char> for Arc<Once> {}
+
+impl Expiry<Named, char> for Box<Once> {
+    fn expire_after_create(&self, key: &Named, value: &char, at: Instant) -> Option<Duration> {
+        self.as_ref().expire_after_create(key, value, at)
+    }
+}
+
+#[test]
+fn an_expiry_may_be_behind_a_pointer() {
+    fn found(expiry: impl Expiry<Named, char> + Send + Sync + 'static) -> Option<char> {
+        let cache = sync::Cache::builder().expire_after(expiry).build();
+        cache.insert(Named(1), 'a');
+        cache.get(&Named(1))
+    }
+    type Any = dyn Expiry<Named, char> + Send + Sync;
+    let (shared, boxed): (Arc<Any>, Box<Any>) = (Arc::new(Once), Box::new(Once));
+    assert_eq!([found(Once), found(shared), found(boxed)], [None; 3]);
+    // These are the caller's own.
+    assert_eq!([found(Arc::new(Once)), found(Box::new(Once))], [Some('a'), None]);
+}
+
+#[test]
+fn a_maker_counts_as_a_load_where_nothing_is_kept() {
+    let cache = sync::Cache::<u32, u32>::new(0);
+    assert_eq!([cache.get_with(1, || 1), cache.get_with(1, || 2)], [1, 2]);
+    assert_eq!((cache.stats().loads, cache.stats().load_failures), (2, 0));
+    assert!(!cache.contains_key(&1));
 }
