@@ -1,5 +1,7 @@
 //! Tests of `moka_engine`.
 mod chosen;
+mod expiry;
 mod held;
 mod large;
+mod looks;
 mod steps;

@@ -1,9 +1,10 @@
-//! What a cache is made with, and how often its expiry is asked.
+//! What a cache is made with.
+use crate::engine::expiry::{Asked, NOTHING, Recorder, STEPS, Timed, is_told, lasts_until};
 use crate::engine::steps::{assert_right, settle};
 use crate::predicates::OneId;
 use moka_engine::{
-    CacheConfig, Engine, EvictionPolicy, Expiry, FixedClock, HousekeeperConfig, Instant,
-    NoListener, NoPredicate, Policy, Weigher,
+    CacheConfig, Engine, EvictionPolicy, FixedClock, HousekeeperConfig, Instant, NoListener,
+    NoPredicate, Policy, Weigher,
 };
 use std::alloc::Global;
 use std::cell::Cell;
@@ -12,63 +13,9 @@ use std::rc::Rc;
 use std::test::Fail;
 use std::time::Duration;
 
-/// How often an expiry was asked at creations, reads and updates.
-type Asked = (u32, u32, u32);
-
-/// Entries last five seconds after they were created. Counts what it is asked.
-#[derive(Drop)]
-struct FiveSeconds {
-    asked: Rc<Cell<Asked>>,
-}
-
-impl FiveSeconds {
-    fn note(&self, creations: u32, reads: u32, updates: u32) {
-        let (created, read, updated) = self.asked.get();
-        self.asked.set((
-            created.wrapping_add(creations),
-            read.wrapping_add(reads),
-            updated.wrapping_add(updates),
-        ));
-    }
-}
-
-impl Expiry<u64, u64> for FiveSeconds {
-    ghost use Rattle.std.specs.Prelude.{Some};
-
-    ghost created = { λ _ _ _ _. Some 5_000_000_000 };
-
-    fn expire_after_create(&self, _: &u64, _: &u64, _: Instant) -> Option<Duration> {
-        self.note(1, 0, 0);
-        Some(Duration::from_secs(5))
-    }
-
-    fn expire_after_read(
-        &self,
-        _: &u64,
-        _: &u64,
-        _: Instant,
-        left: Option<Duration>,
-        _: Instant,
-    ) -> Option<Duration> {
-        self.note(0, 1, 0);
-        left
-    }
-
-    fn expire_after_update(
-        &self,
-        _: &u64,
-        _: &u64,
-        _: Instant,
-        left: Option<Duration>,
-    ) -> Option<Duration> {
-        self.note(0, 0, 1);
-        left
-    }
-}
-
 /// What an entry weighs is its key.
 #[derive(Drop)]
-struct ByKey;
+pub struct ByKey;
 
 impl<V> Weigher<u64, V> for ByKey {
     ghost use Rattle.std.specs.Prelude.{◌≡◌, min};
@@ -84,12 +31,12 @@ impl<V> Weigher<u64, V> for ByKey {
 }
 
 /// A cache in which each choice was made.
-type Chosen = Engine<u64, u64, FiveSeconds, NoListener, NoPredicate, ByKey>;
+pub type Chosen = Engine<u64, Timed, Recorder, NoListener, NoPredicate, ByKey>;
 
 fn config(
     name: String,
     asked: Rc<Cell<Asked>>,
-) -> CacheConfig<FiveSeconds, NoListener, NoPredicate, ByKey> {
+) -> CacheConfig<Recorder, NoListener, NoPredicate, ByKey> {
     CacheConfig::default()
         .name(name)
         .max_capacity(10)
@@ -99,7 +46,7 @@ fn config(
         .time_to_idle(Duration::from_secs(7))
         .housekeeper_config(HousekeeperConfig::default())
         .first_ticket(8)
-        .expire_after(FiveSeconds { asked })
+        .expire_after(Recorder { asked })
         .weigher(ByKey)
         .eviction_listener(NoListener)
         .support_invalidation_closures()
@@ -117,42 +64,42 @@ fn are_limits(policy: &Policy) -> bool {
 }
 
 /// Whether the cache tells what was chosen.
-fn is_told(cache: &Chosen) -> bool {
+fn is_chosen(cache: &Chosen) -> bool {
     are_limits(&cache.policy())
         && cache.name() == Some("chosen")
         && cache.is_removal_notifier_enabled()
         && cache.num_cht_segments() == 1
 }
 
-/// Creates an entry, reads it and replaces its value, and makes a run. Whether the tickets rise from the first.
+/// Creates an entry, replaces its value, and makes a run. Whether tickets rise from the first.
 fn is_numbered(cache: &mut Chosen) -> bool {
-    let (now, later) = (Instant(0), Instant(1));
-    let first = settle(cache, 4, 4, 40, now);
-    let _found = cache.get_with_hash(&4, 4, false, later, &mut FixedClock(later));
-    let second = settle(cache, 4, 4, 41, later);
-    cache.run_pending_tasks(later, &mut FixedClock(later), None, 1, 384);
+    let (now, five) = (Instant(0), Timed('a', Some(5), None, None));
+    let first = settle(cache, 4, 4, five, now);
+    let second = settle(cache, 4, 4, five, now);
+    cache.run_pending_tasks(now, &mut FixedClock(now), None, 1, 384);
     matches!((first, second), (Some(8), Some(9)))
 }
 
 /// Whether an entry weighs its key, and lasts five seconds, and a predicate can be registered.
 fn is_kept(cache: &mut Chosen) -> bool {
-    let is_there = cache.contains_key_with_hash(&4, 4, Instant(4_999_999_999));
-    let is_gone = !cache.contains_key_with_hash(&4, 4, Instant(5_000_000_000));
+    let is_gone_then = lasts_until(cache, 4, Instant(5_000_000_000));
     let registered = cache.invalidate_entries_if(NoPredicate, Instant(0), &mut OneId);
-    is_there && is_gone && cache.weighted_size() == 4 && registered.is_ok()
+    is_gone_then && cache.weighted_size() == 4 && registered.is_ok()
 }
 
-fn check(rt: &impl Abort, cache: &mut Chosen) {
-    assert_right(rt, "told", is_told(cache));
+fn check(rt: &impl Abort, cache: &mut Chosen, asked: &Cell<Asked>) {
+    assert_right(rt, "chosen", is_chosen(cache));
     assert_right(rt, "numbered", is_numbered(cache));
     assert_right(rt, "kept", is_kept(cache));
+    asked.set(NOTHING);
+    for step in &STEPS {
+        assert!(rt; is_told(cache, asked, step), "at {} s", step.1);
+    }
 }
 
 #[test]
 fn keeps_each_choice(rt: HostRuntime) -> Result<(), Fail> {
-    let asked = Rc::new(rt.alloc(), Cell::new((0, 0, 0)))?;
-    check(&rt, &mut chosen(rt.alloc(), &asked)?);
-    // Once at each call, and never by a run.
-    assert!(rt; matches!(asked.get(), (1, 1, 1)));
+    let asked = Rc::new(rt.alloc(), Cell::new(NOTHING))?;
+    check(&rt, &mut chosen(rt.alloc(), &asked)?, &asked);
     Ok(())
 }

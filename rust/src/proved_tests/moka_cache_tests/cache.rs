@@ -8,12 +8,14 @@ use crate::proved_tests::moka_cache_tests::config::{NOW, Tested, config};
 use crate::proved_tests::moka_cache_tests::makers::{failing, nothing, one_more, taken_out, ten, twenty};
 use crate::proved_tests::moka_cache_tests::saves::{fill_apart, lists, refuses_entries, restores};
 use crate::engine::moka_cache::{Cache, CompResult, Removals, Stats};
-use crate::engine::moka_engine::FixedClock;
+use crate::engine::moka_engine::{FixedClock, Instant, RemovalCause};
 use crate::support::alloc::Global;
 
 enum Case {
     SendsAtOnce,
     RunsByItself,
+    MakesOnce,
+    Tells,
     MakesValues,
     InsertsEntries,
     Computes,
@@ -24,9 +26,19 @@ enum Case {
 }
 
 // What is tested of a cache, and whether runs come by themselves.
-const CASES: [(Case, &str, bool); 9] = [
+const CASES: [(Case, &str, bool); 11] = [
     (Case::SendsAtOnce, "operations are sent at once", false),
     (Case::RunsByItself, "a run comes by itself", true),
+    (
+        Case::MakesOnce,
+        "a maker is called if its key is not there",
+        false,
+    ),
+    (
+        Case::Tells,
+        "a listener is told what was removed, and why",
+        false,
+    ),
     (
         Case::MakesValues,
         "a value is made once, and look-ups are counted",
@@ -75,6 +87,10 @@ fn is_right(alloc: Global, cache: &mut Tested, case: &Case) -> bool {
     match case {
         Case::SendsAtOnce => sends_at_once(cache),
         Case::RunsByItself => fill(cache, 65) && waiting(cache) == (0, 1, 64),
+        Case::MakesOnce => {
+            made(cache, 10) == Some((10, true)) && made(cache, 20) == Some((10, false))
+        }
+        Case::Tells => tells(cache),
         Case::MakesValues => makes_values(cache),
         Case::InsertsEntries => inserts_entries(cache),
         Case::Computes => computes(cache),
@@ -111,6 +127,34 @@ fn sends_at_once(cache: &mut Tested) -> bool {
     let is_sent = fill(cache, 400) && waiting(cache) == (0, 16, 384);
     cache.run_pending_tasks(NOW, &mut FixedClock(NOW));
     is_sent && waiting(cache) == (0, 0, 400)
+}
+
+// What a look-up gives of the key 1 that makes a value, and whether its maker was called.
+fn made(cache: &mut Tested, value: u64) -> Option<(u64, bool)> {
+    let mut is_called = false;
+    let maker = || {
+        is_called = true;
+        value
+    };
+    match cache.get_with(1, maker, NOW, &mut FixedClock(NOW)) {
+        Ok(found) => Some((found, is_called)),
+        Err(_) => None,
+    }
+}
+
+// Whether the listener is told of a key that is put in and taken out a nanosecond later.
+fn tells(cache: &mut Tested) -> bool {
+    let later = Instant(1);
+    let is_put = cache.insert(1, 10, NOW, &mut FixedClock(NOW)).is_ok();
+    let removed = cache.remove(&1, later, &mut FixedClock(later));
+    let told = match cache.engine().listener() {
+        Some(counting) => counting.listener.told,
+        None => None,
+    };
+    is_put
+        && matches!(removed, Ok(Some(10)))
+        && told == Some((1, 10, RemovalCause::Explicit))
+        && cache.engine().queued_writes() == 2
 }
 
 // Whether a key has no value after a maker that gives none, and then the first that is made.
@@ -173,10 +217,9 @@ fn counts_removals(cache: &mut Tested) -> bool {
 fn holds_nothing(cache: &mut Tested) -> bool {
     let clock = &mut FixedClock(NOW);
     let is_put = cache.insert(1, 10, NOW, clock).is_ok();
+    let is_made = made(cache, 20) == Some((20, true));
     let is_absent = matches!(cache.get(&1, NOW, clock), Ok(None));
-    let is_made = matches!(cache.get_with(1, twenty, NOW, clock), Ok(20));
-    let is_kept = cache.contains_key(&1, NOW);
     cache.run_pending_tasks(NOW, clock);
     let is_told = cache.removals() != Removals::new();
-    is_put && is_absent && is_made && !is_kept && waiting(cache) == (0, 0, 0) && !is_told
+    is_put && is_made && is_absent && waiting(cache) == (0, 0, 0) && !is_told
 }

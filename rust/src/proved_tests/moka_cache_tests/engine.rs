@@ -2,6 +2,8 @@
 //! Tests of `moka_engine`.
 use crate::support::prelude::*;
 mod chosen;
+mod expiry;
 mod held;
 mod large;
+mod looks;
 mod steps;

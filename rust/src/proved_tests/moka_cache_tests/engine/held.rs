@@ -7,8 +7,9 @@ use crate::support::test::prelude::*;
 use crate::proved_tests::moka_cache_tests::engine::steps::{assert_right, settle};
 use crate::proved_tests::moka_cache_tests::predicates::OneId;
 use crate::engine::moka_engine::{
-    BaseCache, DefaultHasher, Engine, EvictionPolicy, ExpirationPolicy, FixedClock,
-    HousekeeperConfig, Instant, Listener, NoExpiry, NoTest, OutOfMemory, PredicateFn, RemovalCause,
+    BaseCache, DefaultHasher, Engine, EvictionPolicy, ExpirationPolicy, ExpireAfter,
+    ExpireAfterCreate, FixedClock, HousekeeperConfig, Instant, Listener, NoExpiry, NoTest,
+    OutOfMemory, PredicateFn, RemovalCause,
 };
 use crate::support::alloc::{AllocError, Global};
 use std::cell::Cell;
@@ -52,27 +53,58 @@ impl<K, V> PredicateFn<K, V> for All {
 
 }
 
-type Held = Engine<Unique, Rc<u8>, NoExpiry, Counter, All>;
+/// What lets an entry expire ten nanoseconds after it was put.
+#[derive(Clone, Copy)]
+enum Span {
+    ToLive,
+    ToIdle,
+    Own,
+}
 
-/// A cache whose entries last ten nanoseconds after they were written or after they were read.
-fn cache_of(alloc: Global, is_idle: bool, listener: Option<Counter>) -> Result<Held, Fail> {
+impl<K, V> ExpireAfterCreate<K, V> for Span {
+
+    fn expire_after_create(&self, _: &K, _: &V, _: Instant) -> Option<Duration> {
+        Some(Duration::from_nanos(10))
+    }
+}
+
+type OwnSpan = ExpireAfter<Span, NoExpiry, NoExpiry>;
+
+type Held = Engine<Unique, Rc<u8>, OwnSpan, Counter, All>;
+
+fn expirations(span: Span) -> ExpirationPolicy<OwnSpan> {
     let mut expirations = ExpirationPolicy::default();
     let ten = Duration::from_nanos(10);
-    if is_idle {
-        expirations.set_time_to_idle(ten);
-    } else {
-        expirations.set_time_to_live(ten);
+    match span {
+        Span::ToLive => expirations.set_time_to_live(ten),
+        Span::ToIdle => expirations.set_time_to_idle(ten),
+        Span::Own => expirations.set_expiry(ExpireAfter {
+            create: span,
+            read: NoExpiry,
+            update: NoExpiry,
+        }),
     }
+    expirations
+}
+
+/// An empty cache.
+fn cache_of(
+    alloc: Global,
+    span: Span,
+    max_capacity: Option<u64>,
+    policy: EvictionPolicy,
+    listener: Option<Counter>,
+) -> Result<Held, Fail> {
     Ok(BaseCache::new(
         alloc,
         None,
-        None,
+        max_capacity,
         None,
         DefaultHasher::default(),
         None,
-        EvictionPolicy::lru(),
+        policy,
         listener,
-        expirations,
+        expirations(span),
         HousekeeperConfig::default(),
         true,
         Instant(0),
@@ -98,12 +130,11 @@ impl Outside {
         })
     }
 
-    /// Whether so many keys and as many values are held elsewhere.
-    fn are_elsewhere(&self, number: usize) -> bool {
-        let first = Rc::strong_count(&self.first.0);
-        let second = Rc::strong_count(&self.second.0);
-        first.wrapping_add(second) == number.wrapping_add(2)
-            && Rc::strong_count(&self.value) == number.wrapping_add(1)
+    /// Whether each key is held elsewhere so often, and as many values as keys.
+    fn are_elsewhere(&self, (first, second): (usize, usize)) -> bool {
+        Rc::strong_count(&self.first.0) == first.wrapping_add(1)
+            && Rc::strong_count(&self.second.0) == second.wrapping_add(1)
+            && Rc::strong_count(&self.value) == first.wrapping_add(second).wrapping_add(1)
     }
 
     /// One more of a key and of the value.
@@ -154,13 +185,13 @@ fn leave(cache: &mut Held, outside: &Outside, way: Way, now: Instant) -> bool {
     }
 }
 
-/// Puts both keys in, lets them leave, and makes a run, after which the cache holds so many keys and values.
+/// Puts both keys in, lets them leave, and makes a run, which leaves so many of each.
 fn are_let_go(
     cache: &mut Held,
     outside: &Outside,
     way: Way,
     (written, now): (u64, u64),
-    left: usize,
+    left: (usize, usize),
 ) -> bool {
     let is_first_put = outside.is_put(cache, &outside.first, Instant(written));
     let is_second_put = outside.is_put(cache, &outside.second, Instant(written));
@@ -169,17 +200,24 @@ fn are_let_go(
     is_first_put && is_second_put && are_out && outside.are_elsewhere(left)
 }
 
-/// Lets entries leave a cache of its own, which has no listener, in each way.
-fn check_ways(rt: &impl Abort, cache: &mut Held, outside: &Outside) {
+/// Lets entries leave a cache of its own in each way. Of those that stay a run keeps so many.
+fn check_ways(
+    rt: &impl Abort,
+    name: &str,
+    cache: &mut Held,
+    outside: &Outside,
+    kept: (usize, usize),
+) {
     for (case, way, moments, left) in [
-        ("kept", Way::ByItself, (0, 0), 2),
-        ("replaced", Way::ByItself, (0, 0), 2),
-        ("removed", Way::Removed, (0, 0), 0),
-        ("invalidated", Way::Invalidated, (1, 2), 0),
-        ("covered", Way::Covered, (3, 3), 0),
-        ("expired", Way::ByItself, (4, 14), 0),
+        ("put", Way::ByItself, (0, 0), kept),
+        ("replaced", Way::ByItself, (0, 0), kept),
+        ("removed", Way::Removed, (0, 0), (0, 0)),
+        ("invalidated", Way::Invalidated, (1, 2), (0, 0)),
+        ("covered", Way::Covered, (3, 3), (0, 0)),
+        ("expired", Way::ByItself, (4, 14), (0, 0)),
     ] {
-        assert_right(rt, case, are_let_go(cache, outside, way, moments, left));
+        let is_right = are_let_go(cache, outside, way, moments, left);
+        assert!( is_right, "{name}: {case}");
     }
 }
 
@@ -241,7 +279,7 @@ fn are_written(cache: &mut Held, outside: &Outside) -> bool {
     cache.run_pending_tasks(now, &mut FixedClock(now), None, 1, 384);
     let is_put_again = outside.is_put(cache, &outside.first, now);
     let is_told = outside.told.get() == 2;
-    is_replaced && is_put && is_untold && is_put_again && is_told && outside.are_elsewhere(1)
+    is_replaced && is_put && is_untold && is_put_again && is_told && outside.are_elsewhere((1, 0))
 }
 
 /// Makes calls of a cache that notifies its listener.
@@ -251,16 +289,54 @@ fn check_keys(rt: &impl Abort, cache: &mut Held, outside: &Outside) {
     assert_right(rt, "written", are_written(cache, outside));
 }
 
+/// Makes each cache without a listener, and drops it. If there is room for one entry, the second
+/// one takes the place of the first by recency, and is rejected by frequency.
+fn check_unheard(rt: &impl Abort, alloc: Global, outside: &Outside) -> Result<(), Fail> {
+    for (name, span, max_capacity, policy, kept) in [
+        (
+            "time to live",
+            Span::ToLive,
+            None,
+            EvictionPolicy::Lru,
+            (1, 1),
+        ),
+        (
+            "time to idle",
+            Span::ToIdle,
+            None,
+            EvictionPolicy::Lru,
+            (1, 1),
+        ),
+        ("own expiry", Span::Own, None, EvictionPolicy::Lru, (1, 1)),
+        (
+            "recency",
+            Span::ToLive,
+            Some(1),
+            EvictionPolicy::Lru,
+            (0, 1),
+        ),
+        (
+            "frequency",
+            Span::ToLive,
+            Some(1),
+            EvictionPolicy::TinyLfu,
+            (1, 0),
+        ),
+    ] {
+        let cache = &mut cache_of(alloc, span, max_capacity, policy, None)?;
+        check_ways(rt, name, cache, outside, kept);
+    }
+    Ok(())
+}
+
 /// Makes each cache, and drops it.
 fn check(rt: &impl Abort, alloc: Global, outside: &Outside) -> Result<(), Fail> {
-    check_ways(rt, &mut cache_of(alloc, false, None)?, outside);
-    check_ways(rt, &mut cache_of(alloc, true, None)?, outside);
-    let told = outside.told.try_clone()?;
-    check_keys(
-        rt,
-        &mut cache_of(alloc, true, Some(Counter { told }))?,
-        outside,
-    );
+    check_unheard(rt, alloc, outside)?;
+    let listener = Some(Counter {
+        told: outside.told.try_clone()?,
+    });
+    let cache = &mut cache_of(alloc, Span::ToIdle, None, EvictionPolicy::Lru, listener)?;
+    check_keys(rt, cache, outside);
     Ok(())
 }
 
@@ -270,6 +346,6 @@ fn lets_go_of_all_and_clones_no_key_without_need() -> Result<(), Fail> {
     let rt = HostRuntime;
     let outside = Outside::new(rt.alloc())?;
     check(&rt, rt.alloc(), &outside)?;
-    assert!( outside.are_elsewhere(0) && outside.told.get() == 2);
+    assert!( outside.are_elsewhere((0, 0)) && outside.told.get() == 2);
     Ok(())
 }
