@@ -12,29 +12,27 @@ import re
 # The kit's libraries, and the modules of std from which Rust's differ: the stand-ins for both are in src/support.
 LIBRARIES = ["anyhow", "circular_buffer", "uuid"]
 STD = ["alloc", "collections", "hash", "io", "simd", "time"]
-STD_OF_TESTS = ["process", "rc", "test"]
 # What outcomes may have of Rust's, outside texts, characters and comments: attributes, macros, keywords, and those of
 # them that may stand behind a name or a closing bracket. The sources need no more.
-DERIVES = "Clone|Copy|Debug|Default|Eq|Hash|Ord|PartialEq|PartialOrd"
-ATTRIBUTES = r"inline(?:\((?:always|never)\))?|cold|test|cfg\(test\)|allow\(clippy::too_many_arguments\)|derive\(%s\)"
+DERIVES = "Clone|Copy|Debug|Default|Eq|Ord|PartialEq|PartialOrd"
+ATTRIBUTES = r"inline(?:\((?:always|never)\))?|cold|allow\(clippy::too_many_arguments\)|derive\(%s\)"
 ATTRIBUTE = re.compile(r"#\[(?:%s)\]" % ATTRIBUTES % rf"(?:{DERIVES})(?:, (?:{DERIVES}))*")
-MACROS = ["assert", "assert_eq", "assert_ne", "crate::support::test::text", "matches", "panic", "unreachable", "write",
-          "writeln"]
+MACROS = ["matches", "unreachable", "write", "writeln"]
 BEHIND = "as|else|for|if|in|where"
 WORDS = BEHIND + "|const|enum|fn|impl|let|loop|match|mod|mut|pub|return|struct|trait|type|use|while"
 NUMBERS = "u8|u32|u64|u128|usize"
 # What no outcome may have, so that nothing of Rattle's is left over. Names stand behind keywords and marks, not behind
-# other names, as in `proof fn` or `fn f() decreases n`. Before a brace they are types or modules, or what is asked, as
-# in `if x {`.
+# other names, as in `proof fn` or `fn f() decreases n`. Before a brace they are types, or what is asked, as in
+# `if x {`.
 NOT_LEFT = [
     ("a character of Rattle's", r"[^\x00-\x7f]"),
     ("an attribute", r"#.*"),
-    ("a word of Rattle's", r"\b(?:ghost|requires|ensures|Drop|Model|unsafe)\b|\bHostRuntime\b(?!;)|==>"),
+    ("a word of Rattle's", r"\b(?:ghost|requires|ensures|Drop|Model|HostRuntime|unsafe)\b|==>"),
     ("a clone that can fail", r"(?<!crate::support::)\bclone\b(?!\(&self\) -> Self \{)"),
     ("a word behind a name", rf"\b(?!(?:{WORDS})\b)\w+\s+(?!(?:{BEHIND})\b)\w+"),
     ("a word behind a bracket or text", rf"[])\"]\s*(?!(?:{BEHIND})\b)\w+"),
     ("a word behind a type", r"\bfn\b[^{;]*[^-\s]\s*>\s*(?!where\b)\w+"),
-    ("a word before a brace", rf"(?:\A|[;{{]|}}(?=\s*\w)|=>)(?:(?!=>|\b(?:if|while|match|in|mod)\b)[^;{{}}])*"
+    ("a word before a brace", rf"(?:\A|[;{{]|}}(?=\s*\w)|=>)(?:(?!=>|\b(?:if|while|match|in)\b)[^;{{}}])*"
                               rf"\b(?!(?:else|loop|bool|str|{NUMBERS})\b)[a-z_]\w*\s*\{{"),
 ]
 
@@ -126,7 +124,7 @@ def change(rule, form, to, text, flags=0):
 
 
 def deleted(text, for_rattle=False):
-    """The source without its contracts. For Rattle's own compiler each line stays where it was, and what std requires."""
+    """The source without its contracts. For Rattle's compiler each line stays where it was, and what std requires."""
 
     def left(gone):
         return "\n" * gone.count("\n") if for_rattle else ""
@@ -166,8 +164,8 @@ def without_drops(text):
 
 def written_clone(m):
     """A clone that is written out; Rust's has no way to refuse but a panic."""
-    form = r"fn clone\(&self\) -> Result<\w+, AllocError> (\{.*\})\n( *)\}\n\Z"
-    to = r"fn clone(&self) -> Self {\n\2        crate::support::clone::unless_refused((|| \1)())\n\2    }\n\2}\n"
+    form = r"fn clone\(&self\) -> Result<\w+, AllocError> (\{.*\})\n\}\n\Z"
+    to = r"fn clone(&self) -> Self {\n        crate::support::clone::unless_refused((|| \1)())\n    }\n}\n"
     made, count = re.subn(form, to, m.group(), flags=re.S)
     if count != 1:
         raise Refused(f"a clone of another form: {m.group()}")
@@ -179,33 +177,16 @@ def renamed(text):
     """What Rust names otherwise."""
     text = change("a Formatter of any writer", r"fmt::Formatter<W>", "fmt::Formatter<'_>", text)
     text = change("a Formatter of any writer", r"<W: fmt::Write>", "", text)
-    text = change("a Formatter of any writer", r"(fn \w+<[^>(]*), W: fmt::Write>", r"\1>", text)
-    text = re.sub(r"^( *)impl\b[^{\n]*\bClone for [^{]*\{\n.*?^\1\}\n", written_clone, text, flags=re.M | re.S)
+    text = re.sub(r"^impl\b[^{\n]*\bClone for [^{]*\{\n.*?^\}\n", written_clone, text, flags=re.M | re.S)
     text = change("a clone that can fail", r"\.clone\(\)", ".try_clone()", text)
     from_str = "crate::support::string::from_str(alloc, "
     text = change("a text of an allocator", r"\bString::from_str\(alloc, ", from_str, text)
     return change("items of an iterator", r"(?<=\))\.collect\((?=alloc\))", ".collect_in(", text)
 
 
-def renamed_tests(text):
-    """What tests name otherwise: they have the runtime at hand, which Rust's do not need."""
-    runtime = "a test's runtime"
-    head = r"(#\[test\]\s*fn \w+)\(_?rt: HostRuntime\)([^{]*\{)"
-    text = change(runtime, head, r"\1()\2\n    let rt = HostRuntime;", text)
-    text = change(runtime, r"\b(assert(?:_eq|_ne)?!|panic!)\(\s*rt;", r"\1(", text)
-    text = change("a test's text", r"\bformat!\(in [\w.()]+; ", "crate::support::test::text!(", text)
-    repeated = r"\bvec!\[in [\w.()]+; ([^;\]]+); ([^\]]+)\]"
-    text = change("a test's list", repeated, r"Vec::from_elem(Global, \1, \2)", text)
-    text = change("a test's list", r"\bvec!\[in ([\w.()]+); ([^\]]*)\]", r"crate::support::vec::Vec::from_array(\1, [\2])", text)
-    text = change("a test's text", r"\bString::new\(alloc\)", "String::new()", text)
-    text = change("a test's text", r"\.push\(('[^'\\]')\)\?", r".push(\1)", text)
-    names = "|".join(STD_OF_TESTS)
-    return change("a path to a library", r"(?<![\w:`])std::(?=(?:%s)::)" % names, "crate::support::test::", text)
-
-
 def with_paths(text, crate, homes):
     """Paths to crates and libraries, which are modules of one crate now. `homes` says where each crate's is."""
-    text = change("a path to a crate", r"(?<!\$)\bcrate::(?!support::)", f"crate::{homes[crate]}::{crate}::", text)
+    text = change("a path to a crate", r"\bcrate::(?!support::)", f"crate::{homes[crate]}::{crate}::", text)
     for name, home in homes.items():
         text = change("a path to a crate", r"(?<![\w:`])%s::" % name, f"crate::{home}::{name}::", text)
     for name in LIBRARIES:
@@ -215,16 +196,10 @@ def with_paths(text, crate, homes):
     return text
 
 
-def with_preludes(text):
-    """The names that each module of Rattle has at hand, in front of the module and of its tests."""
-    uses = "use crate::support::prelude::*;\n"
-    of_tests = "use crate::support::test::prelude::*;\n"
+def with_prelude(text):
+    """The names that each module of Rattle has at hand, in front of the module."""
     head = re.match(r"(?://!.*\n)*", text).group()
-    body = re.sub(r"^(mod tests \{\n)", r"\1    " + of_tests, text[len(head):], flags=re.M)
-    is_test = "HostRuntime" in body or "::test::" in body
-    if is_test and body.count(of_tests) == 0:
-        uses += "#[cfg(test)]\n" + of_tests
-    return head + uses + body
+    return head + "use crate::support::prelude::*;\n" + text[len(head):]
 
 
 def tokens(text):
@@ -269,8 +244,7 @@ def erased(text, crate, homes):
     text = re.sub(r"\n[ \t\n]*;", ";", text)
     text = re.sub(r"\n{3,}", "\n\n", text)
     text = renamed(text)
-    text = renamed_tests(text)
-    text = with_preludes(with_paths(text, crate, homes))
+    text = with_prelude(with_paths(text, crate, homes))
     if literals(text) != before:
         raise Refused("a text or a character was changed")
     refuse_left_over(text)

@@ -11,7 +11,7 @@ sys.dont_write_bytecode = True
 from erase import Refused, deleted, erased  # noqa: E402
 from same_code import functions, symbols  # noqa: E402
 
-HOMES = {"moka_index": "engine", "moka_engine": "engine", "moka_tests": "proved_tests"}
+HOMES = {"moka_index": "engine", "moka_engine": "engine", "moka_uses": "callers"}
 USES = "use crate::support::prelude::*;\n"
 
 
@@ -35,7 +35,8 @@ class Deletes(unittest.TestCase):
         text = "use std::marker::{Model, PhantomData};\n"
         text += "impl<K> Model for A<K> {\n    ghost Value = { K };\n}\nstruct B;\n"
         self.assertEqual(made(text), "use std::marker::PhantomData;\nstruct B;\n")
-        self.assertEqual(made("impl<K> Model\n    for A<K>\n{\n    ghost Value = { K };\n}\nstruct B;\n"), "struct B;\n")
+        text = "impl<K> Model\n    for A<K>\n{\n    ghost Value = { K };\n}\nstruct B;\n"
+        self.assertEqual(made(text), "struct B;\n")
 
     def test_tactics(self):
         self.assertEqual(made("#![tactic(auto)]\nmod a;\n"), "mod a;\n")
@@ -68,8 +69,10 @@ class Renames(unittest.TestCase):
     def test_paths(self):
         self.assertEqual(made("use crate::a::B;\n"), "use crate::engine::moka_engine::a::B;\n")
         self.assertEqual(made("use moka_index::Index;\n"), "use crate::engine::moka_index::Index;\n")
-        self.assertEqual(made("use std::hash::Hash;\nuse circular_buffer::heap::HeapCircularBuffer;\nuse std::fmt;\n"),
-                         "use crate::support::hash::Hash;\nuse crate::support::circular_buffer::heap::HeapCircularBuffer;\nuse std::fmt;\n")
+        self.assertEqual(made("use crate::a::B;\n", "moka_uses"), "use crate::callers::moka_uses::a::B;\n")
+        text = "use std::hash::Hash;\nuse circular_buffer::heap::HeapCircularBuffer;\nuse std::fmt;\n"
+        wanted = "use crate::support::hash::Hash;\nuse crate::support::circular_buffer::heap::HeapCircularBuffer;\n"
+        self.assertEqual(made(text), wanted + "use std::fmt;\n")
 
     def test_clones_and_formatters(self):
         self.assertEqual(made("let b = a.clone();\n"), "let b = a.try_clone();\n")
@@ -83,16 +86,6 @@ class Renames(unittest.TestCase):
         wanted += "        crate::support::clone::unless_refused((|| {\n"
         wanted += "        Ok(A(self.0.try_clone()?))\n    })())\n    }\n}\n"
         self.assertEqual(made(text), wanted)
-        inner = "mod tests {\n    impl Clone for A {\n        fn clone(&self) -> Result<Self, AllocError> {\n"
-        inner += "            Err(AllocError)\n        }\n    }\n\n    fn f() {}\n}\n"
-        self.assertIn("    impl Clone for A {\n        fn clone(&self) -> Self {\n", made(inner))
-
-    def test_tests(self):
-        text = "#[test]\nfn f(rt: HostRuntime) -> Result<(), Fail> {\n    assert_eq!(rt; 1, 1);\n    panic!(rt; \"no\");\n}\n"
-        out = made(text, "moka_tests")
-        body = "    let rt = HostRuntime;\n    assert_eq!( 1, 1);\n    panic!( \"no\");\n"
-        self.assertIn("fn f() -> Result<(), Fail> {\n" + body + "}\n", out)
-        self.assertIn("use crate::support::test::prelude::*;", out)
 
 
 class Refuses(unittest.TestCase):
@@ -127,12 +120,14 @@ class Refuses(unittest.TestCase):
     def test_attributes(self):
         self.refuses("an attribute", "#[decreases(n)]\nfn f() {}\n", "#[lemma]\nfn f() {}\n", "#![no_std]\n",
                      "#[derive(Eq, Frob)]\nstruct A;\n", "#[derive(Eq, Drop, Frob)]\nstruct A;\n",
-                     "#[inline(often)]\nfn f() {}\n")
+                     "#[inline(often)]\nfn f() {}\n", "#[test]\nfn f() {}\n", "#[cfg(test)]\nmod a;\n")
 
     def test_macros(self):
         self.refuses("a macro", "fn f() { assume!{ a } }\n", "fn f() { assume !(a) }\n",
                      'fn f() { println!(rt; "a"); }\n', 'fn f() { write!(rt; "a") }\n', "fn f() { matches!{ a } }\n",
-                     "fn f() { text!(a) }\n", "fn f() { assert!(a(1); 2) }\n", "fn f() { vec![1] }\n")
+                     "fn f() { text!(a) }\n", "fn f() { matches!(a(1); 2) }\n", "fn f() { vec![1] }\n",
+                     "fn f() { assert!(rt; a) }\n", "fn f() { assert!(a) }\n", 'fn f() { panic!(rt; "a") }\n',
+                     'fn f() { format!(in alloc; "a") }\n', "fn f() { vec![in alloc; 1] }\n")
 
     def test_words(self):
         self.refuses("a word behind a name", "proof fn f() {}\n", "pub spec fn f() {}\n", "pub(crate) spec fn f() {}\n",
@@ -143,11 +138,11 @@ class Refuses(unittest.TestCase):
         self.refuses("a word before a brace", "fn f() { invariant { x } }\n", "fn f() { let x = calc { a }; }\n",
                      "fn f() { calc { .. } }\n", "fn f() { assert { a } }\n", "fn f() { g(); assert { a } by { b } }\n",
                      "fn f() { match a { A => calc { b } } }\n", "fn f() { loop invariant { a } }\n", "spec { a }\n",
-                     "fn f() { if a { b } invariant { c } }\n")
+                     "fn f() { if a { b } invariant { c } }\n", "mod tests {\n    fn f() {}\n}\n")
 
     def test_characters_and_calls(self):
         self.refuses("a character of Rattle's", "fn f() { x ∧ 1 }\n", "fn f(é: u64) {}\n")
-        self.refuses("a word of Rattle's", "fn f(rt: HostRuntime, a: u64) {}\n", "fn f() { a ==> b }\n")
+        self.refuses("a word of Rattle's", "fn f(rt: HostRuntime) {}\n", "fn f() { a ==> b }\n")
         self.refuses("a clone that can fail", "fn f() { K::clone(&k)? }\n", "fn f() { k.clone( ) }\n")
 
 
@@ -175,7 +170,6 @@ class Symbols(unittest.TestCase):
         text += "impl<K> Drop for Of<K> {\n    fn drop() {}\n}\n"
         text += "impl<'a> c::T<A> for &'a str {\n    fn f() {}\n}\nimpl<X: Eq> T<X> for X {\n    fn f() {}\n}\n"
         text += "impl From<Soon> for Of {\n    fn f() {}\n}\nimpl From<io::Late> for Of {\n    fn f() {}\n}\n"
-        text += "mod tests {\n    fn f() {}\n}\n"
         wanted = {
             "f": ["a::b::f"],
             "T::f": ["a::b::T::f"],
@@ -187,7 +181,6 @@ class Symbols(unittest.TestCase):
             "<X as T>::f": ["a::b::AnyT::f"],
             "<Of as From<Soon>>::f": ["a::b::OfFromSoon::f"],
             "<Of as From<io::Late>>::f": ["a::b::OfFromIoLate::f"],
-            "tests::f": ["a::b::tests::f"],
         }
         found = dict(functions(text, "a::b"))
         self.assertEqual([*found], [*wanted])

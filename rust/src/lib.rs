@@ -41,7 +41,8 @@
 //! Equal keys must have equal hashes, and weighers, expiries and predicates must give equal answers to equal arguments;
 //! otherwise an answer may be wrong, but behaviour is never undefined. [`sync::Cache`] says what code runs under the
 //! lock of a shard, and what follows if it panics.
-#![forbid(unsafe_code)]
+#![cfg_attr(not(test), forbid(unsafe_code))]
+#![cfg_attr(test, deny(unsafe_code))]
 
 #[cfg(not(target_pointer_width = "64"))]
 compile_error!("the engine's proofs hold for usize of 64 bits: this target has another width");
@@ -52,7 +53,7 @@ mod engine;
 #[allow(dead_code, unused_imports, unused_labels, unused_variables, clippy::all)]
 #[cfg(test)]
 #[rustfmt::skip]
-mod proved_tests;
+mod callers;
 #[allow(dead_code, unused_imports, unused_labels, unused_variables, clippy::all)]
 #[cfg(any(test, feature = "replay"))]
 #[doc(hidden)]
@@ -76,6 +77,8 @@ mod random_store;
 mod settings;
 mod shard;
 pub mod sync;
+#[cfg(test)]
+mod tests;
 pub mod unsync;
 
 /// Why a value left, as the listener is told.

@@ -1,11 +1,12 @@
-//! Random steps of the generated store beside plain lists and maps.
+//! Random steps of the generated store beside plain lists and maps, and each of its allocations refused in turn.
 
 use crate::engine::moka_engine::DefaultHasher;
 use crate::engine::moka_records::instant::Instant;
 use crate::engine::moka_records::records::Record;
 use crate::engine::moka_store::{Handle, IndexHash, Store, Update};
 use crate::random_calls::Numbers;
-use crate::support::alloc::Global;
+use crate::support::alloc::{AllocError, Global};
+use crate::tests::structures::{Growing, filled, made, refuse_each};
 use std::collections::BTreeMap;
 
 const STEPS: u64 = 20_000;
@@ -38,7 +39,7 @@ struct Both {
 impl Both {
     fn new() -> Self {
         Both {
-            store: Store::new(Global, DefaultHasher::default(), true, true).expect("memory"),
+            store: made(|| Store::new(Global, DefaultHasher::default(), true, true)),
             numbers: 0,
             handles: BTreeMap::new(),
             records: BTreeMap::new(),
@@ -299,6 +300,43 @@ impl Both {
         expected.sort_unstable();
         assert_eq!((keys, self.store.record_count()), (expected, self.records.len()));
     }
+}
+
+impl Growing for Both {
+    fn used(&self) -> usize {
+        self.handles.len()
+    }
+
+    fn reserve(&mut self, additional: usize) -> Result<(), AllocError> {
+        self.store.reserve(additional)
+    }
+
+    /// Adds a member with a timer. One of each three leaves.
+    fn add(&mut self, number: u64) {
+        self.insert(number, 10 * number, Some(number));
+        let handle = self.handles[&number];
+        self.admit(handle, 1);
+        self.set_timer(handle);
+        if number % 3 == 2 {
+            let before = self.handles[&(number - 1)];
+            self.take(before, true);
+            self.forget(before);
+        }
+    }
+
+    fn assert_alike(&self) {
+        self.agree();
+    }
+}
+
+#[test]
+fn is_as_it_was_after_a_refused_growth() {
+    refuse_each(|| {
+        let mut both = filled(Both::new(), 300);
+        let timers = both.timers.clone();
+        both.take_due(u64::MAX);
+        (both.records, both.access, both.written, timers)
+    });
 }
 
 #[test]

@@ -23,7 +23,7 @@ use Rattle.moka_parts.specs.State.{Contents}
 use Rattle.moka_laws.proofs.RunKeeps.{Keeps, keeps_writes, keeps_choices}
 use Rattle.moka_records.proofs.Values.{len_removed, remove_absent}
 use Rattle.moka_laws.proofs.Waiting.{hands_out, waits_sent}
-use Rattle.moka_tickets.specs.Pending.{Pending}
+use Rattle.moka_structures.specs.Pending.{Pending}
 use Rattle.moka_store.specs.Store.{Kept}
 use Rattle.moka_store.proofs.Gets.{after_insert, after_remove, get-inserted, get-past_insert, get-past_remove, len-inserted, len-kept, option-cases}
 use Rattle.moka_maintenance.proofs.Popped.{nothing_there}

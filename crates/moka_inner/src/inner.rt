@@ -36,7 +36,7 @@ use moka_parts::record_ref::RecordRef;
 use moka_parts::records::{Operation, ReadOperation, Record};
 use moka_sketch::frequency_sketch::FrequencySketch;
 use moka_store::{Handle, IndexHash, MAX_PLACES, Store, Update};
-use moka_tickets::outstanding::Outstanding;
+use moka_structures::outstanding::Outstanding;
 use std::alloc::{AllocError, Global};
 use std::hash::{BuildHasher, Hash};
 use std::marker::Model;

@@ -3,3 +3,6 @@ pub mod Lookups
 pub mod Orders
 pub mod Parts
 pub mod Rings
+pub mod Kept
+pub mod Newest
+pub mod Tickets

@@ -2,7 +2,6 @@
 pub mod moka_links;
 pub mod moka_index;
 pub mod moka_structures;
-pub mod moka_tickets;
 pub mod moka_wheel;
 pub mod moka_records;
 pub mod moka_types;

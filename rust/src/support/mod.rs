@@ -8,8 +8,6 @@ pub mod collections;
 pub mod hash;
 pub mod io;
 pub mod simd;
-#[cfg(test)]
-pub mod test;
 pub mod uuid;
 pub mod vec;
 
@@ -66,9 +64,9 @@ pub mod clone {
 
     impl<T: Clone> TryClone for T {}
 
-    /// The clone, or a panic if it was refused.
+    /// The clone. If it was refused, that unwinds, and no panic is reported.
     pub fn unless_refused<T>(clone: Result<T, AllocError>) -> T {
-        clone.unwrap_or_else(|refused| std::panic::panic_any(refused))
+        clone.unwrap_or_else(|refused| std::panic::resume_unwind(Box::new(refused)))
     }
 }
 

@@ -13,7 +13,7 @@ use std::time::{Duration, Instant};
 struct Name(u32);
 
 /// A key whose number is not compared. The first that is put there has 1, and each later one 2.
-struct Key {
+pub struct Key {
     name: Name,
     id: u32,
 }
@@ -46,7 +46,7 @@ impl ToOwned for Name {
     }
 }
 
-fn key(name: u32, id: u32) -> Key {
+pub fn key(name: u32, id: u32) -> Key {
     Key { name: Name(name), id }
 }
 

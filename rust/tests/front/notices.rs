@@ -175,7 +175,7 @@ thread_local! {
 }
 
 /// How many notices a cache has, of what was replaced, that its listener was not told.
-fn pending(cache: &OnceLock<Cache<u32, u64>>, told: &AtomicU64) -> u64 {
+fn pending(cache: &OnceLock<Cache<u64, u64>>, told: &AtomicU64) -> u64 {
     let replaced = cache.get().map_or(0, |cache| cache.stats().replaced);
     replaced.saturating_sub(told.load(Ordering::SeqCst))
 }
@@ -183,7 +183,7 @@ fn pending(cache: &OnceLock<Cache<u32, u64>>, told: &AtomicU64) -> u64 {
 #[test]
 fn a_call_tells_its_turn_and_no_more_while_others_put_notices_there() {
     const ALL: u64 = 3000;
-    static OWN: OnceLock<Cache<u32, u64>> = OnceLock::new();
+    static OWN: OnceLock<Cache<u64, u64>> = OnceLock::new();
     static TOLD: AtomicU64 = AtomicU64::new(0);
     static BY_FIRST: AtomicU32 = AtomicU32::new(0);
     let listener = |_, _, _| {
@@ -221,7 +221,7 @@ fn a_call_tells_its_turn_and_no_more_while_others_put_notices_there() {
 #[test]
 fn who_put_notices_there_in_a_maker_waits_after_it() {
     const CALLS: u64 = 1500;
-    static OWN: OnceLock<Cache<u32, u64>> = OnceLock::new();
+    static OWN: OnceLock<Cache<u64, u64>> = OnceLock::new();
     static TOLD: AtomicU64 = AtomicU64::new(0);
     let listener = |_, _, _| {
         TOLD.fetch_add(1, Ordering::SeqCst);
@@ -257,7 +257,7 @@ fn who_put_notices_there_in_a_maker_waits_after_it() {
 #[test]
 fn makers_and_listeners_of_caches_that_call_each_other_end() {
     const CALLS: u64 = 2000;
-    static CACHES: [OnceLock<Cache<u32, u64>>; 2] = [const { OnceLock::new() }; 2];
+    static CACHES: [OnceLock<Cache<u64, u64>>; 2] = [const { OnceLock::new() }; 2];
     static TOLD: AtomicU64 = AtomicU64::new(0);
     for (index, cache) in CACHES.iter().enumerate() {
         let listener = move |_, left, _| {
@@ -493,18 +493,18 @@ fn what_has_expired_leaves_while_only_another_shard_is_called() {
 
 #[test]
 fn what_was_invalidated_leaves_while_only_another_shard_is_called() {
-    type Hides = fn(&Cache<u32, Arc<()>>, Arc<()>);
+    type Hides = fn(&Cache<u32, Arc<u32>>, Arc<u32>);
     let ways: [(&str, Hides); 2] = [
         ("invalidate_all", |cache, _| cache.invalidate_all()),
         ("invalidate_entries_if", |cache, captured| {
-            let predicate = move |_: &u32, _: &Arc<()>| Arc::strong_count(&captured) > 0;
+            let predicate = move |_: &u32, _: &Arc<u32>| Arc::strong_count(&captured) > 0;
             drop(cache.invalidate_entries_if(predicate).unwrap());
         }),
     ];
     for (name, hide) in ways {
         let builder = Cache::<u32, _>::builder().shards(4);
         let cache = builder.support_invalidation_closures().build();
-        let (value, captured) = (Arc::new(()), Arc::new(()));
+        let (value, captured) = (Arc::new(1), Arc::new(2));
         (0..100).for_each(|key| cache.insert(key, Arc::clone(&value)));
         hide(&cache, Arc::clone(&captured));
         let start = Instant::now();

@@ -208,38 +208,45 @@ fn a_predicate_that_panics_in_two_shards_ends_no_process() {
     assert_eq!((cache.get(&0), cache.get(&1)), (None, Some('c')));
 }
 
+thread_local! {
+    // How many of `Brittle` were dropped.
+    static DROPS: Cell<u32> = const { Cell::new(0) };
+}
+
 /// A key or value whose drop panics if it ends in 13.
 #[derive(Clone, PartialEq, Eq, Hash)]
 struct Brittle(u32);
 
 impl Drop for Brittle {
     fn drop(&mut self) {
+        DROPS.set(DROPS.get() + 1);
         assert!(self.0 % 100 != 13, "a drop that panics");
     }
 }
 
 #[test]
 fn a_drop_that_panics_changes_nothing() {
-    let mut cache = unsync::Cache::<u32, _>::new(100);
-    cache.insert(1, Brittle(13));
-    cache.insert(2, Brittle(2));
-    assert!(panics(|| cache.insert(1, Brittle(1))));
-    assert!(cache.get(&1).is_some_and(|it| it.0 == 1));
-    assert!(cache.get(&2).is_some());
+    let mut cache = unsync::Cache::new(100);
+    cache.insert(Brittle(1), Brittle(13));
+    cache.insert(Brittle(2), Brittle(2));
+    assert!(panics(|| cache.insert(Brittle(1), Brittle(1))));
+    assert!(cache.get(&Brittle(1)).is_some_and(|it| it.0 == 1));
+    assert!(cache.get(&Brittle(2)).is_some());
 }
 
 /// Lets keys and values leave by one call, some of which panic when they are dropped. All are dropped, and the cache
 /// goes on.
 macro_rules! drops {
     ($cache:expr) => {{
-        let (mut cache, held) = ($cache, Arc::new(()));
+        let mut cache = $cache;
         for key in [1, 13, 2, 113, 213] {
-            cache.insert(Brittle(key), (Brittle(key), Arc::clone(&held)));
+            cache.insert(Brittle(key), Brittle(key));
         }
         cache.invalidate_all();
+        DROPS.set(0);
         assert!(panics(|| cache.run_pending_tasks()));
-        assert_eq!((cache.entry_count(), Arc::strong_count(&held)), (0, 1));
-        cache.insert(Brittle(1), (Brittle(1), held));
+        assert_eq!((cache.entry_count(), DROPS.get()), (0, 10));
+        cache.insert(Brittle(1), Brittle(1));
         assert!(cache.get(&Brittle(1)).is_some());
     }};
 }
@@ -253,25 +260,24 @@ fn drops_of_one_call_that_panic_end_no_process() {
 
 #[test]
 fn a_drop_that_panics_during_another_panic_ends_no_process() {
-    let cache = sync::Cache::<u32, _>::builder()
-        .shards(1)
-        .support_invalidation_closures()
-        .build();
-    cache.insert(0, Brittle(0));
+    let cache = sync::Cache::builder().shards(1).support_invalidation_closures().build();
+    let insert = |key, value| cache.insert(Brittle(key), Brittle(value));
+    insert(0, 0);
     cache.run_pending_tasks();
-    let predicate = |_: &u32, _: &Brittle| panic!("a predicate that panics");
+    let predicate = |_: &Brittle, _: &Brittle| panic!("a predicate that panics");
     cache.invalidate_entries_if(predicate).unwrap();
-    cache.insert(1, Brittle(13));
+    insert(1, 13);
     // Within 64 of these a run asks the predicate, after one more value has left.
     let text = || {
-        let panic = catch_unwind(AssertUnwindSafe(|| cache.insert(1, Brittle(13)))).unwrap_err();
+        let panic = catch_unwind(AssertUnwindSafe(|| insert(1, 13))).unwrap_err();
         *panic.downcast_ref::<&str>().unwrap()
     };
     assert!((0..100).any(|_| text() == "a predicate that panics"));
     // That empties the shard, so the last value is dropped.
-    assert!(panics(|| cache.insert(1, Brittle(1))));
-    cache.insert(1, Brittle(1));
-    assert_eq!((cache.contains_key(&0), cache.contains_key(&1)), (false, true));
+    assert!(panics(|| insert(1, 1)));
+    insert(1, 1);
+    let are_there = [0, 1].map(|key| cache.contains_key(&Brittle(key)));
+    assert_eq!(are_there, [false, true]);
 }
 
 #[test]
@@ -288,52 +294,14 @@ fn drops_that_panic_after_the_listener_has_end_no_process() {
     }
 }
 
-/// A key whose comparison panics if one of the two is 13.
-#[derive(Debug)]
-struct Moody(u32);
-
-impl PartialEq for Moody {
-    fn eq(&self, other: &Self) -> bool {
-        assert!(self.0 != 13 && other.0 != 13, "a comparison that panics");
-        self.0 == other.0
-    }
-}
-
-impl Eq for Moody {}
-
-impl Hash for Moody {
-    fn hash<H: Hasher>(&self, state: &mut H) {
-        // All hashes are equal, so that keys are compared.
-        assert!(self.0 != 14, "a hash that panics");
-        state.write_u32(0);
-    }
-}
-
-#[test]
-fn a_comparison_or_hash_that_panics_changes_nothing() {
-    let mut cache = unsync::Cache::new(100);
-    for key in 0..10 {
-        cache.insert(Moody(key), key);
-    }
-    for key in [13, 14] {
-        assert!(panics(|| cache.get(&Moody(key))));
-        assert!(panics(|| cache.insert(Moody(key), key)));
-        assert!(panics(|| cache.entry(Moody(key)).or_insert(key)));
-        assert!(panics(|| cache.remove(&Moody(key))));
-    }
-    for key in 0..10 {
-        assert_eq!(cache.get(&Moody(key)), Some(key));
-    }
-    cache.run_pending_tasks();
-    assert_eq!(cache.entry_count(), 10);
-}
-
 thread_local! {
     // How many comparisons of `Touchy` do not panic.
     static CALM: Cell<u32> = const { Cell::new(u32::MAX) };
+    // Whether all hashes of `Touchy` panic.
+    static BREAKS: Cell<bool> = const { Cell::new(false) };
 }
 
-/// A key of which one comparison panics.
+/// A key whose comparison panics if one of the two is 13, and whose hash panics if it is 14; or as the above say.
 #[derive(Clone, Copy, Debug, Eq)]
 struct Touchy(u32);
 
@@ -341,32 +309,55 @@ impl PartialEq for Touchy {
     fn eq(&self, other: &Self) -> bool {
         let calm = CALM.get();
         CALM.set(calm.wrapping_sub(1));
-        assert!(calm > 0, "a comparison that panics");
+        let is_13 = self.0 == 13 || other.0 == 13;
+        assert!(calm > 0 && !is_13, "a comparison that panics");
         self.0 == other.0
     }
 }
 
 impl Hash for Touchy {
     fn hash<H: Hasher>(&self, state: &mut H) {
-        state.write_u32(self.0);
+        assert!(self.0 != 14 && !BREAKS.get(), "a hash that panics");
+        // All hashes below 100 are equal, so that keys are compared.
+        state.write_u32(self.0 / 100);
     }
 }
 
+#[test]
+fn a_comparison_or_hash_that_panics_changes_nothing() {
+    let mut cache = unsync::Cache::new(100);
+    for key in 0..10 {
+        cache.insert(Touchy(key), key);
+    }
+    for key in [13, 14] {
+        assert!(panics(|| cache.get(&Touchy(key))));
+        assert!(panics(|| cache.insert(Touchy(key), key)));
+        assert!(panics(|| cache.entry(Touchy(key)).or_insert(key)));
+        assert!(panics(|| cache.remove(&Touchy(key))));
+    }
+    for key in 0..10 {
+        assert_eq!(cache.get(&Touchy(key)), Some(key));
+    }
+    cache.run_pending_tasks();
+    assert_eq!(cache.entry_count(), 10);
+}
+
 /// Makes calls for a key that is there, until one compares it twice: before and after a run. The second time panics.
+/// All hashes are different.
 macro_rules! compares {
     ($cache:expr, $($call:expr),+) => {$({
         let mut cache = $cache;
         for key in 0..100 {
-            cache.insert(Touchy(key), key);
+            cache.insert(Touchy(100 * key), key);
         }
         let mut breaks = || {
             CALM.set(1);
-            let is_broken = panics(|| $call(&mut cache, Touchy(1)));
+            let is_broken = panics(|| $call(&mut cache, Touchy(100)));
             CALM.set(u32::MAX);
             is_broken
         };
         assert!((0..1000).any(|_| breaks()), stringify!($call));
-        assert!((0..100).all(|key| cache.get(&Touchy(key)) == Some(key)), stringify!($call));
+        assert!((0..100).all(|key| cache.get(&Touchy(100 * key)) == Some(key)), stringify!($call));
     })+};
 }
 
@@ -388,41 +379,22 @@ fn a_comparison_that_panics_after_a_run_changes_nothing() {
     );
 }
 
-/// A key whose hash panics while it is told to.
-struct Fickle(&'static AtomicBool);
-
-impl PartialEq for Fickle {
-    fn eq(&self, _: &Self) -> bool {
-        true
-    }
-}
-
-impl Eq for Fickle {}
-
-impl Hash for Fickle {
-    fn hash<H: Hasher>(&self, state: &mut H) {
-        assert!(!self.0.load(Ordering::SeqCst), "a hash that panics");
-        state.write_u32(0);
-    }
-}
-
 #[test]
 fn a_hash_that_panics_keeps_no_making_from_ending() {
-    static BREAKS: AtomicBool = AtomicBool::new(false);
-    let cache = sync::Cache::new(100);
+    let cache = sync::Cache::<Touchy, u32>::new(100);
     let make = || {
-        BREAKS.store(true, Ordering::SeqCst);
+        BREAKS.set(true);
         7
     };
-    assert!(!panics(|| cache.get_with(Fickle(&BREAKS), make)));
-    BREAKS.store(false, Ordering::SeqCst);
-    cache.invalidate(&Fickle(&BREAKS));
-    assert_eq!(cache.get_with(Fickle(&BREAKS), || 8), 8);
+    assert!(!panics(|| cache.get_with(Touchy(1), make)));
+    BREAKS.set(false);
+    cache.invalidate(&Touchy(1));
+    assert_eq!(cache.get_with(Touchy(1), || 8), 8);
 }
 
 #[test]
 fn a_maker_that_panics_harms_nobody() {
-    let (cache, calls) = (sync::Cache::<u32, _>::new(100), AtomicU32::new(0));
+    let (cache, calls) = (sync::Cache::<u32, u32>::new(100), AtomicU32::new(0));
     let values = thread::scope(|scope| {
         let ask = || {
             cache.get_with(1, || {
@@ -510,7 +482,7 @@ fn an_upsert_that_panics_changes_nothing() {
 fn a_listener_that_panics_is_told_no_more() {
     let told = Arc::new(AtomicU32::new(0));
     let counts = Arc::clone(&told);
-    let cache = sync::Cache::<u32, _>::builder()
+    let cache = sync::Cache::<u32, u32>::builder()
         .max_capacity(100)
         .shards(8)
         .eviction_listener(move |_, _, _| {

@@ -1,5 +1,6 @@
 //! What a cache tells of its limits, and what it has counted.
 
+use crate::keys::{Key, key};
 use ravulemis::{Expiry, Policy, Stats, sync, unsync};
 use std::iter;
 use std::sync::Arc;
@@ -94,38 +95,35 @@ fn policies_with_the_same_limits_are_equal() {
     }
 }
 
-/// A key of the caller's, so that expiries for it may be behind pointers of std.
-#[derive(PartialEq, Eq, Hash)]
-struct Named(u32);
-
+/// An expiry for keys of the caller's, so that it may be behind pointers of std.
 struct Once;
 
-impl Expiry<Named, char> for Once {
-    fn expire_after_create(&self, _: &Named, _: &char, _: Instant) -> Option<Duration> {
+impl Expiry<Key, u32> for Once {
+    fn expire_after_create(&self, _: &Key, _: &u32, _: Instant) -> Option<Duration> {
         Some(Duration::ZERO)
     }
 }
 
-impl Expiry<Named, char> for Arc<Once> {}
+impl Expiry<Key, u32> for Arc<Once> {}
 
-impl Expiry<Named, char> for Box<Once> {
-    fn expire_after_create(&self, key: &Named, value: &char, at: Instant) -> Option<Duration> {
+impl Expiry<Key, u32> for Box<Once> {
+    fn expire_after_create(&self, key: &Key, value: &u32, at: Instant) -> Option<Duration> {
         self.as_ref().expire_after_create(key, value, at)
     }
 }
 
 #[test]
 fn an_expiry_may_be_behind_a_pointer() {
-    fn found(expiry: impl Expiry<Named, char> + Send + Sync + 'static) -> Option<char> {
+    fn found(expiry: impl Expiry<Key, u32> + Send + Sync + 'static) -> Option<u32> {
         let cache = sync::Cache::builder().expire_after(expiry).build();
-        cache.insert(Named(1), 'a');
-        cache.get(&Named(1))
+        cache.insert(key(1, 1), 7);
+        cache.get(&key(1, 1))
     }
-    type Any = dyn Expiry<Named, char> + Send + Sync;
+    type Any = dyn Expiry<Key, u32> + Send + Sync;
     let (shared, boxed): (Arc<Any>, Box<Any>) = (Arc::new(Once), Box::new(Once));
     assert_eq!([found(Once), found(shared), found(boxed)], [None; 3]);
     // These are the caller's own.
-    assert_eq!([found(Arc::new(Once)), found(Box::new(Once))], [Some('a'), None]);
+    assert_eq!([found(Arc::new(Once)), found(Box::new(Once))], [Some(7), None]);
 }
 
 #[test]

@@ -14,7 +14,7 @@ use std::time::{Duration, Instant};
 fn threads_share_it() {
     let cache = Cache::new(10_000);
     thread::scope(|scope| {
-        for thread in 0..16usize {
+        for thread in 0..16u32 {
             let cache = cache.clone();
             scope.spawn(move || {
                 for key in thread * 64..(thread + 1) * 64 {
@@ -37,7 +37,7 @@ fn threads_share_it() {
 #[test]
 fn threads_own_clones_of_it() {
     let cache = Cache::new(10_000);
-    let counters = (0..16usize).map(|thread| {
+    let counters = (0..16u32).map(|thread| {
         let owned = cache.clone();
         thread::spawn(move || {
             let keys = thread * 64..(thread + 1) * 64;
@@ -59,21 +59,21 @@ fn settings_leave_types_to_the_calls() {
         .weigher(|_key, text: &String| -> u32 { text.len().try_into().unwrap_or(u32::MAX) })
         .max_capacity(32 << 20)
         .build();
-    texts.insert(0usize, "zero".to_string());
+    texts.insert(0u32, "zero".to_string());
     texts.run_pending_tasks();
     assert_eq!((texts.get(&0).as_deref(), texts.weighted_size()), (Some("zero"), 4));
     let timed = Cache::builder()
         .time_to_live(Duration::from_secs(1800))
         .time_to_idle(Duration::from_secs(300))
         .build();
-    timed.insert(0, "zero");
-    assert_eq!(timed.get(&0), Some("zero"));
+    timed.insert(0u32, 'a');
+    assert_eq!(timed.get(&0), Some('a'));
     let policy = timed.policy();
     let times = (policy.time_to_live(), policy.time_to_idle());
     assert_eq!(times, (Some(Duration::from_secs(1800)), Some(Duration::from_secs(300))));
     let entries: Vec<_> = timed.iter().collect();
-    assert_eq!(entries, [(Arc::new(0), "zero")]);
-    let named: ravulemis::sync::Iter<'_, i32, &str> = timed.iter();
+    assert_eq!(entries, [(Arc::new(0), 'a')]);
+    let named: ravulemis::sync::Iter<'_, u32, char> = timed.iter();
     assert_eq!(named.count(), 1);
 }
 
@@ -86,7 +86,7 @@ fn shards_share_the_capacity() {
         let cache = builder.shards(shards).build();
         assert_eq!(cache.policy().num_segments(), shards);
         for key in 0..2 * capacity {
-            cache.insert(key, ());
+            cache.insert(key, key);
         }
         cache.run_pending_tasks();
         assert!(cache.entry_count() <= capacity);
@@ -228,46 +228,33 @@ fn a_value_for_which_nobody_waits_is_cloned_once() {
     }
 }
 
-/// A key that is cloned after a look-up in vain: before the value is made, another is put there.
+/// A key that is cloned after a look-up in vain: before the value is made, another is put into the cache of its number.
 #[derive(PartialEq, Eq, Hash)]
-struct Late(char);
+struct Late(usize);
 
-static LATE: OnceLock<Cache<Late, Slow>> = OnceLock::new();
+static LATE: [OnceLock<Cache<Late, Slow>>; 2] = [const { OnceLock::new() }; 2];
 
 impl Clone for Late {
     fn clone(&self) -> Self {
         // The first two clones are those of who finds it.
         let clones = Arc::new(AtomicU32::new(u32::MAX));
-        LATE.get().unwrap().insert(Late(self.0), Slow(1, clones));
+        LATE[self.0].get().unwrap().insert(Late(self.0), Slow(1, clones));
         Late(self.0)
     }
 }
 
 #[test]
 fn a_value_that_was_taken_out_is_not_handed_out_by_one_who_found_it() {
-    let cache = LATE.get_or_init(|| Cache::new(100));
+    let cache = LATE[0].get_or_init(|| Cache::new(100));
     thread::scope(|scope| {
-        scope.spawn(|| cache.get_with_by_ref(&Late('a'), || unreachable!()));
-        while !cache.contains_key(&Late('a')) {
+        scope.spawn(|| cache.get_with_by_ref(&Late(0), || unreachable!()));
+        while !cache.contains_key(&Late(0)) {
             thread::yield_now();
         }
         thread::sleep(Duration::from_millis(50));
-        assert_eq!(cache.remove(&Late('a')).map(|value| value.0), Some(1));
-        assert_eq!(cache.get_with(Late('a'), || Slow(2, Arc::default())).0, 2);
+        assert_eq!(cache.remove(&Late(0)).map(|value| value.0), Some(1));
+        assert_eq!(cache.get_with(Late(0), || Slow(2, Arc::default())).0, 2);
     });
-}
-
-/// A key that is cloned after a look-up in vain, as `Late`.
-#[derive(PartialEq, Eq, Hash)]
-struct Slot(u32);
-
-static SLOTS: OnceLock<Cache<Slot, char>> = OnceLock::new();
-
-impl Clone for Slot {
-    fn clone(&self) -> Self {
-        SLOTS.get().unwrap().insert(Slot(self.0), 'a');
-        Slot(self.0)
-    }
 }
 
 /// Entries that are handed out once.
@@ -289,9 +276,9 @@ fn what_expires_by_the_look_that_found_it_is_replaced() {
 
 #[test]
 fn what_another_put_there_meanwhile_is_read() {
-    let cache = SLOTS.get_or_init(|| Cache::builder().expire_after(Once).build());
-    assert_eq!(cache.get_with_by_ref(&Slot(1), || unreachable!()), 'a');
-    assert_eq!(cache.get(&Slot(1)), None);
+    let cache = LATE[1].get_or_init(|| Cache::builder().expire_after(Once).build());
+    assert_eq!(cache.get_with_by_ref(&Late(1), || unreachable!()).0, 1);
+    assert_eq!(cache.get(&Late(1)).map(|value| value.0), None);
     let stats = cache.stats();
     assert_eq!((stats.hits, stats.misses, stats.loads), (0, 2, 0));
 }

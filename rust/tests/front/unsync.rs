@@ -113,7 +113,7 @@ const LONGER: Duration = Duration::from_millis(2100);
 
 #[test]
 fn lets_entries_expire() {
-    let mut cache = Cache::<u32, _>::builder().time_to_live(LONG).build();
+    let mut cache = Cache::<u32, u32>::builder().time_to_live(LONG).build();
     cache.insert(1, 1);
     assert_eq!(cache.get(&1), Some(1));
     sleep(LONGER);
@@ -122,7 +122,7 @@ fn lets_entries_expire() {
 
 #[test]
 fn hands_out_what_has_expired() {
-    let mut cache = Cache::<u32, _>::builder().time_to_live(LONG).build();
+    let mut cache = Cache::<u32, u32>::builder().time_to_live(LONG).build();
     cache.insert(1, 1);
     sleep(LONGER);
     assert!(!cache.contains_key(&1));
@@ -131,7 +131,7 @@ fn hands_out_what_has_expired() {
 
 #[test]
 fn a_slow_maker_takes_nothing_of_the_time_to_live() {
-    let mut cache = Cache::<u32, _>::builder().time_to_live(LONG).build();
+    let mut cache = Cache::<u32, u32>::builder().time_to_live(LONG).build();
     let make = || {
         sleep(LONGER);
         1
@@ -142,7 +142,7 @@ fn a_slow_maker_takes_nothing_of_the_time_to_live() {
 
 #[test]
 fn a_read_keeps_an_entry_from_idling_out() {
-    let mut cache = Cache::<u32, _>::builder().time_to_idle(LONG).build();
+    let mut cache = Cache::<u32, u32>::builder().time_to_idle(LONG).build();
     cache.insert(1, 1);
     for _ in 0..4 {
         sleep(Duration::from_millis(600));
@@ -155,13 +155,13 @@ fn a_read_keeps_an_entry_from_idling_out() {
 /// An entry lasts as many hours as its value says, from when it was written.
 struct Hours;
 
-impl Expiry<u32, u64> for Hours {
-    fn expire_after_create(&self, _: &u32, hours: &u64, created_at: Instant) -> Option<Duration> {
+impl Expiry<u64, u64> for Hours {
+    fn expire_after_create(&self, _: &u64, hours: &u64, created_at: Instant) -> Option<Duration> {
         assert!(created_at <= Instant::now());
         Some(Duration::from_secs(3600 * hours))
     }
 
-    fn expire_after_update(&self, _: &u32, hours: &u64, _: Instant, left: Option<Duration>) -> Option<Duration> {
+    fn expire_after_update(&self, _: &u64, hours: &u64, _: Instant, left: Option<Duration>) -> Option<Duration> {
         assert!(left <= Some(Duration::from_secs(3600)));
         Some(Duration::from_secs(3600 * hours))
     }
@@ -169,7 +169,7 @@ impl Expiry<u32, u64> for Hours {
 
 #[test]
 fn entries_expire_by_themselves() {
-    let mut cache = Cache::<u32, _>::builder().expire_after(Hours).build();
+    let mut cache = Cache::<u64, _>::builder().expire_after(Hours).build();
     cache.insert(1, 1);
     cache.insert(2, 0);
     assert_eq!((cache.get(&1), cache.get(&2)), (Some(1), None));
@@ -181,8 +181,8 @@ fn entries_expire_by_themselves() {
 
 #[test]
 fn an_expiry_may_be_shared() {
-    let expiry: Arc<dyn Expiry<u32, u64> + Send + Sync> = Arc::new(Hours);
-    let mut cache = Cache::<u32, _>::builder().expire_after(expiry).build();
+    let expiry: Arc<dyn Expiry<u64, u64> + Send + Sync> = Arc::new(Hours);
+    let mut cache = Cache::<u64, _>::builder().expire_after(expiry).build();
     cache.insert(1, 1);
     cache.insert(2, 0);
     assert_eq!((cache.get(&1), cache.get(&2)), (Some(1), None));
@@ -190,7 +190,7 @@ fn an_expiry_may_be_shared() {
 
 #[test]
 fn an_invalidation_hides_what_was_before_it_alone() {
-    let mut cache = Cache::<u32, _>::builder().support_invalidation_closures().build();
+    let mut cache = Cache::<u32, u32>::builder().support_invalidation_closures().build();
     for round in 0..200 {
         cache.insert(1, round);
         cache.invalidate_all();
@@ -215,7 +215,7 @@ fn predicates_are_refused_where_they_are_not_supported() {
 
 #[test]
 fn counts_loads() {
-    let mut cache = Cache::<u32, _>::new(10);
+    let mut cache = Cache::<u32, u32>::new(10);
     assert_eq!(cache.get_with(1, || 1), 1);
     assert_eq!(cache.try_get_with::<_, &str>(2, || Err("no")), Err("no"));
     assert_eq!(cache.optionally_get_with(1, || None), Some(1));

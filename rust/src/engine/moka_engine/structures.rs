@@ -2,6 +2,5 @@
 //! The structures that the engine keeps its entries in, each from a crate of its own.
 use crate::support::prelude::*;
 pub use crate::engine::moka_sketch::frequency_sketch::{FrequencySketch, sketch_capacity, table_len_for};
-pub use crate::engine::moka_structures::OrderList;
-pub use crate::engine::moka_tickets::Outstanding;
+pub use crate::engine::moka_structures::{OrderList, Outstanding};
 pub use crate::engine::moka_wheel::{Due, TimerWheel};

@@ -19,7 +19,7 @@ use crate::engine::moka_parts::record_ref::RecordRef;
 use crate::engine::moka_parts::records::{Operation, ReadOperation, Record};
 use crate::engine::moka_sketch::frequency_sketch::FrequencySketch;
 use crate::engine::moka_store::{Handle, IndexHash, MAX_PLACES, Store, Update};
-use crate::engine::moka_tickets::outstanding::Outstanding;
+use crate::engine::moka_structures::outstanding::Outstanding;
 use crate::support::alloc::{AllocError, Global};
 use crate::support::hash::{BuildHasher, Hash};
 

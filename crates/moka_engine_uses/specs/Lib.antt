@@ -1,0 +1,9 @@
+pub mod Hidden
+pub mod Ordered
+pub mod Driven
+pub mod Refused
+pub mod Resized
+pub mod Asked
+pub mod Notified
+pub mod Late
+pub mod Weighed

@@ -1,4 +1,0 @@
-pub mod Kept
-pub mod Newest
-pub mod Pending
-pub mod Tickets

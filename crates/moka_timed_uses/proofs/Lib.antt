@@ -1,0 +1,6 @@
+pub mod LookedUp
+pub mod Idle
+pub mod Named
+pub mod Among
+pub mod Limited
+pub mod LoggedOut

@@ -1,0 +1,5 @@
+pub mod Sessions
+pub mod Borrowed
+pub mod Restarted
+pub mod Logins
+pub mod Joined
