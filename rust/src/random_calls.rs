@@ -1,11 +1,12 @@
 //! Random calls of the generated synchronous cache, whole and in segments, beside a plain map.
 
-use crate::engine::moka_cache::{Cache, CompResult, CountingListener, Op};
-use crate::engine::moka_engine::{CacheConfig, EvictionPolicy, FixedClock, IdSource, Instant, NoExpiry, PredicateId};
+use crate::engine::moka_cache::{Cache, CompResult, Op};
+use crate::engine::moka_engine::{
+    CacheConfig, EvictionPolicy, FixedClock, IdSource, Instant, NoExpiry, NoListener, PredicateFn, PredicateId,
+};
 use crate::engine::moka_segments::SegmentedCache;
 use crate::support::alloc::Global;
 use crate::support::uuid::Uuid;
-use crate::tests::engine::fixtures::{Below, Counting, Last};
 use std::collections::HashMap;
 use std::time::Duration;
 
@@ -60,6 +61,15 @@ impl IdSource for Ids {
     fn next_id(&mut self) -> PredicateId {
         self.0 += 1;
         Uuid::from_u128(self.0)
+    }
+}
+
+/// Covers the keys below a bound.
+struct Below(u64);
+
+impl PredicateFn<u64, u64> for Below {
+    fn applies(&self, key: &u64, _: &u64) -> bool {
+        *key < self.0
     }
 }
 
@@ -235,14 +245,11 @@ fn many(cache: &mut Cache<String, u64>, plain: &mut Plain<String>, call: u64, nu
     keys[2..].iter().for_each(|key| plain.put(key, call, call));
 }
 
-/// Segments that take predicates and have a listener, with a capacity of all.
-type Segments = SegmentedCache<u64, u64, NoExpiry, Counting, Below>;
+/// Segments that take predicates, with a capacity of all.
+type Segments = SegmentedCache<u64, u64, NoExpiry, NoListener, Below>;
 
 fn segments(count: u32, capacity: u64) -> Segments {
-    let config = |_| {
-        let listener = CountingListener::new(Last::default());
-        lives().support_invalidation_closures().eviction_listener(listener)
-    };
+    let config = |_| lives().support_invalidation_closures();
     SegmentedCache::build(count, Some(capacity), config, Global, Instant(0)).expect("memory")
 }
 
