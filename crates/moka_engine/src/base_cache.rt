@@ -263,7 +263,7 @@ impl<
     pub fn hash(&self, key: &K) -> u64
         ensures { result ≡ key_hash S.BuildHasher S.Hasher.Hasher self.now.hasher (K.hash_input key.now) }
     {
-        self.inner.hash(key)
+        self.inner.store().hash(key)
     }
 
     /// Whether the capacity is 0, and so nothing is ever kept.
@@ -487,7 +487,7 @@ impl<
         ensures step { RemoveByStep (T.passes test.now) self.old.state result self.new.state }
         ensures events { Befalls L.tells no_events self.old self.new }
     {
-        let (handle, _) = self.inner.find_by(test, own)?;
+        let (handle, _) = self.inner.store().find_by(test, own)?;
         let (record, ticket) = self.inner.remove(handle, own);
         Some((entry_of_record(record), ticket))
     }
@@ -581,7 +581,8 @@ impl<
     pub fn get_key_with_hash(&self, key: &K, _hash: u64) -> Option<&K>
         ensures { option_copied result ≡ option_map (λ r. r.key) (record_of_key K.eq self.now.state.records key.now) }
     {
-        let (_, found) = self.inner.find(key, self.inner.index_hash(key))?;
+        let own = self.inner.index_hash(key);
+        let (_, found) = self.inner.store().find_by_key(key, own)?;
         Some(found.key())
     }
 
@@ -606,7 +607,7 @@ impl<
         if segment >= SEGMENTS {
             return Ok(None);
         }
-        match self.inner.keys(self.alloc) {
+        match self.inner.store().keys(self.alloc) {
             Ok(keys) => Ok(Some(keys)),
             Err(_) => Err(OutOfMemory),
         }

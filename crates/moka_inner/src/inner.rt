@@ -1,17 +1,16 @@
 //! The map, the operations that wait, and both queues.
-ghost use Rattle.std.specs.Prelude.{◌≡◌, ◌+◌, ◌^◌, ◌<◌, ◌≤◌, ◌↔◌, true, [], ◌∷◌, ◌++◌, None, Some, Ok, Err, OnOk, OnErr, IfOk, IfSome, IsOk, if◌then◌else◌, length, nat_lt, option_map, slice_get};
+ghost use Rattle.std.specs.Prelude.{◌≡◌, ◌+◌, ◌^◌, ◌<◌, ◌≤◌, ◌↔◌, true, [], ◌∷◌, ◌++◌, None, Some, Ok, Err, OnOk, OnErr, IfOk, IsOk, if◌then◌else◌, length, nat_lt, option_map, slice_get};
 ghost use Rattle.std.specs.Duration.{as_nanos};
 ghost use Rattle.std.specs.FinMap as finite;
-ghost use Rattle.moka_records.specs.Hashing.{key_hash};
 ghost use Rattle.moka_parts.specs.Calls.{queue_length};
-ghost use Rattle.moka_records.specs.Records.{IsListOf, record_of_key, total_weight, with_record};
+ghost use Rattle.moka_records.specs.Records.{IsListOf, record_of_key, with_record};
 ghost use Rattle.moka_parts.specs.Reads.{after_reads};
 ghost use Rattle.moka_types.specs.declared.error.InsertError.TheVariants.{NumbersUsedUp};
 ghost use Rattle.moka_records.specs.declared.records.Operation.{Operation};
 ghost use Rattle.moka_records.specs.declared.records.Operation.TheVariants.{Upsert, Removal};
 ghost use Rattle.moka_records.specs.declared.records.Record.{Record};
 ghost use Rattle.moka_store.specs.Hashing.{IsIndexHash};
-ghost use Rattle.moka_store.specs.Store.{AreKeysOf, ChangesRecord, ExpiresAsBefore, IsHandle};
+ghost use Rattle.moka_store.specs.Store.{ChangesRecord, ExpiresAsBefore, IsHandle};
 ghost use Rattle.moka_table.specs.Updates.{updated};
 ghost use Rattle.moka_maintenance.specs.Passes.{IsRan};
 ghost use Rattle.moka_maintenance.specs.Queues.{ArePrepared};
@@ -32,7 +31,6 @@ use moka_parts::housekeeper::Clock;
 use moka_parts::invalidator::Invalidator;
 use moka_parts::notification::{Listener, RemovalNotifier};
 use moka_parts::policy::Instant;
-use moka_parts::record_ref::RecordRef;
 use moka_parts::records::{Operation, ReadOperation, Record};
 use moka_sketch::frequency_sketch::FrequencySketch;
 use moka_store::{Handle, IndexHash, MAX_PLACES, Store, Update};
@@ -168,33 +166,12 @@ impl<K: Eq + Hash, V, S: BuildHasher> Inner<K, V, S> {
         &self.store
     }
 
-    /// The hash of a key by the store's hasher.
-    #[inline(always)]
-    pub fn hash(&self, key: &K) -> u64
-        ensures { result ≡ key_hash S.BuildHasher S.Hasher.Hasher self.now.kept.hasher (K.hash_input key.now) }
-    {
-        self.store.hash(key)
-    }
-
     /// The hash under which the store has a key, or would have it.
     #[inline(always)]
     pub fn index_hash(&self, key: &K) -> IndexHash
         ensures { IsIndexHash S.BuildHasher S.Hasher.Hasher self.now.kept.hasher (K.hash_input key.now) result }
     {
         IndexHash::of(self.store.hash(key))
-    }
-
-    /// The record whose key is equal, with its handle, under the key's hash.
-    #[inline(always)]
-    pub fn find(&self, key: &K, hash: IndexHash) -> Option<(Handle, RecordRef<'_, K, V>)>
-        requires hashed { IsIndexHash S.BuildHasher S.Hasher.Hasher self.now.kept.hasher (K.hash_input key.now) hash }
-        ensures handle { IfSome result (λ f. IsHandle self.now.kept f.0) }
-        ensures numbered { IfSome result (λ f. finite.get self.now.kept.records f.0.number ≡ Some f.1) }
-        ensures found { option_map (λ f. f.1) result ≡ record_of_key K.eq self.now.kept.records key.now }
-        ensures hashed { IfSome result (λ f. IsIndexHash S.BuildHasher S.Hasher.Hasher
-            self.now.kept.hasher (K.hash_input f.1.key) hash) }
-    {
-        self.store.find_by_key(key, hash)
     }
 
     /// Makes room for one more record with its operation and its removal, and changes nothing if there is room.
@@ -460,29 +437,6 @@ impl<K: Eq + Hash, V, S: BuildHasher> Inner<K, V, S> {
         ensures rest { self.new ≡ record self.old { kept = self.new.kept; operation_room = self.new.operation_room } }
     {
         make_passes(&mut self.store, notifier, invalidator, clock, terms)
-    }
-
-    /// Clones of the keys of all records, in no particular order.
-    pub fn keys(&self, alloc: Global) -> Result<Vec<K>, AllocError>
-    where
-        K: Clone + Drop,
-        ensures { IfOk result (λ keys. AreKeysOf K.is_clone self.now.kept.records keys.items) }
-    {
-        self.store.keys(alloc)
-    }
-
-    /// How many members the access list has.
-    pub fn member_count(&self) -> usize
-        ensures { result ≡ length self.now.kept.access }
-    {
-        self.store.member_count()
-    }
-
-    /// The sum of the weights that are counted for the members.
-    pub fn total_weight(&self) -> u128
-        ensures { result ≡ total_weight self.now.kept.access }
-    {
-        self.store.total_weight()
     }
 
     /// How many operations were handed out and not sent.

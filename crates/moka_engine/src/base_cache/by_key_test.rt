@@ -41,7 +41,7 @@ impl<
     pub fn hash_of<Q: Hash>(&self, form: &Q) -> u64
         ensures { result ≡ key_hash S.BuildHasher S.Hasher.Hasher self.now.hasher (Q.hash_input form.now) }
     {
-        self.inner.hash_of(form)
+        self.inner.store().hash_of(form)
     }
 
     /// As `contains_key_with_own_hash` of the key that passes. `hash` is that of the keys that do, by the cache's own

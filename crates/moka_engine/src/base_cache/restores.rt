@@ -41,9 +41,10 @@ impl<
             result self.new.state }
         ensures events { Befalls L.tells no_events self.old self.new }
     {
-        let hash = self.inner.hash(&item.key);
+        let store = self.inner.store();
+        let hash = store.hash(&item.key);
         let own = IndexHash::of(hash);
-        if inserts::has_key(self.inner.store(), &item.key, own) {
+        if inserts::has_key(store, &item.key, own) {
             let error = RestoreError::KeyPresent;
             return Err(RestoreRefused { error, item });
         }

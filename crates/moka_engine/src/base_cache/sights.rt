@@ -27,7 +27,7 @@ impl<
         ensures { IsSight P.says self.now.state now.0 (record_of_key K.eq self.now.state.records key.now) result }
     {
         let own = self.inner.index_hash(key);
-        let Some((_, found)) = self.inner.find(key, own) else {
+        let Some((_, found)) = self.inner.store().find_by_key(key, own) else {
             return Sight::Absent;
         };
         if let Some(lapse) = lapse_of(&found, &self.expiration_policy, self.valid_after, now) {
@@ -44,7 +44,7 @@ impl<
         ensures { result ≡ option_map is_applied (record_of_key K.eq self.now.state.records key.now) }
     {
         let own = self.inner.index_hash(key);
-        let (_, found) = self.inner.find(key, own)?;
+        let (_, found) = self.inner.store().find_by_key(key, own)?;
         Some(found.is_settled())
     }
 
@@ -54,7 +54,7 @@ impl<
         ensures { result ≡ option_map (λ r. r.weight) (record_of_key K.eq self.now.state.records key.now) }
     {
         let own = self.inner.index_hash(key);
-        let (_, found) = self.inner.find(key, own)?;
+        let (_, found) = self.inner.store().find_by_key(key, own)?;
         Some(found.weight())
     }
 

@@ -162,7 +162,7 @@ impl<
     #[inline(always)]
     pub fn hash(&self, key: &K) -> u64
     {
-        self.inner.hash(key)
+        self.inner.store().hash(key)
     }
 
     /// Whether the capacity is 0, and so nothing is ever kept.
@@ -341,7 +341,7 @@ impl<
         own: IndexHash,
     ) -> Option<(KvEntry<K, V>, Ticket)>
     {
-        let (handle, _) = self.inner.find_by(test, own)?;
+        let (handle, _) = self.inner.store().find_by(test, own)?;
         let (record, ticket) = self.inner.remove(handle, own);
         Some((entry_of_record(record), ticket))
     }
@@ -417,7 +417,8 @@ impl<
     /// The key that the cache keeps for an equal one, visible or not. Nothing is recorded, and `_hash` is ignored.
     pub fn get_key_with_hash(&self, key: &K, _hash: u64) -> Option<&K>
     {
-        let (_, found) = self.inner.find(key, self.inner.index_hash(key))?;
+        let own = self.inner.index_hash(key);
+        let (_, found) = self.inner.store().find_by_key(key, own)?;
         Some(found.key())
     }
 
@@ -438,7 +439,7 @@ impl<
         if segment >= SEGMENTS {
             return Ok(None);
         }
-        match self.inner.keys(self.alloc) {
+        match self.inner.store().keys(self.alloc) {
             Ok(keys) => Ok(Some(keys)),
             Err(_) => Err(OutOfMemory),
         }

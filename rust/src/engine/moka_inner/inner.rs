@@ -15,7 +15,6 @@ use crate::engine::moka_parts::housekeeper::Clock;
 use crate::engine::moka_parts::invalidator::Invalidator;
 use crate::engine::moka_parts::notification::{Listener, RemovalNotifier};
 use crate::engine::moka_parts::policy::Instant;
-use crate::engine::moka_parts::record_ref::RecordRef;
 use crate::engine::moka_parts::records::{Operation, ReadOperation, Record};
 use crate::engine::moka_sketch::frequency_sketch::FrequencySketch;
 use crate::engine::moka_store::{Handle, IndexHash, MAX_PLACES, Store, Update};
@@ -100,25 +99,11 @@ impl<K: Eq + Hash, V, S: BuildHasher> Inner<K, V, S> {
         &self.store
     }
 
-    /// The hash of a key by the store's hasher.
-    #[inline(always)]
-    pub fn hash(&self, key: &K) -> u64
-    {
-        self.store.hash(key)
-    }
-
     /// The hash under which the store has a key, or would have it.
     #[inline(always)]
     pub fn index_hash(&self, key: &K) -> IndexHash
     {
         IndexHash::of(self.store.hash(key))
-    }
-
-    /// The record whose key is equal, with its handle, under the key's hash.
-    #[inline(always)]
-    pub fn find(&self, key: &K, hash: IndexHash) -> Option<(Handle, RecordRef<'_, K, V>)>
-    {
-        self.store.find_by_key(key, hash)
     }
 
     /// Makes room for one more record with its operation and its removal, and changes nothing if there is room.
@@ -281,26 +266,6 @@ impl<K: Eq + Hash, V, S: BuildHasher> Inner<K, V, S> {
     ) -> Ran
     {
         make_passes(&mut self.store, notifier, invalidator, clock, terms)
-    }
-
-    /// Clones of the keys of all records, in no particular order.
-    pub fn keys(&self, alloc: Global) -> Result<Vec<K>, AllocError>
-    where
-        K: Clone,
-    {
-        self.store.keys(alloc)
-    }
-
-    /// How many members the access list has.
-    pub fn member_count(&self) -> usize
-    {
-        self.store.member_count()
-    }
-
-    /// The sum of the weights that are counted for the members.
-    pub fn total_weight(&self) -> u128
-    {
-        self.store.total_weight()
     }
 
     /// How many operations were handed out and not sent.

@@ -29,7 +29,7 @@ impl<
     #[inline(always)]
     pub fn hash_of<Q: Hash>(&self, form: &Q) -> u64
     {
-        self.inner.hash_of(form)
+        self.inner.store().hash_of(form)
     }
 
     /// As `contains_key_with_own_hash` of the key that passes. `hash` is that of the keys that do, by the cache's own

@@ -32,9 +32,10 @@ impl<
     /// changed.
     pub fn restore(&mut self, item: Restored<K, V>) -> Result<Ticket, RestoreRefused<K, V>>
     {
-        let hash = self.inner.hash(&item.key);
+        let store = self.inner.store();
+        let hash = store.hash(&item.key);
         let own = IndexHash::of(hash);
-        if inserts::has_key(self.inner.store(), &item.key, own) {
+        if inserts::has_key(store, &item.key, own) {
             let error = RestoreError::KeyPresent;
             return Err(RestoreRefused { error, item });
         }

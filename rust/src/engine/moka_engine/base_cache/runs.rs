@@ -79,8 +79,9 @@ impl<
         let ran = self
             .inner
             .make_passes(&mut self.notifier, &mut self.invalidator, clock, terms);
-        self.entry_count = self.inner.member_count() as u64;
-        self.weighted_size = saturated(self.inner.total_weight());
+        let store = self.inner.store();
+        self.entry_count = store.member_count() as u64;
+        self.weighted_size = saturated(store.total_weight());
         self.passes = ran.passes;
         ran.has_more
     }

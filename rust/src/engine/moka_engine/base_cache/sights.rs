@@ -24,7 +24,7 @@ impl<
     pub fn sight(&self, key: &K, now: Instant) -> Sight
     {
         let own = self.inner.index_hash(key);
-        let Some((_, found)) = self.inner.find(key, own) else {
+        let Some((_, found)) = self.inner.store().find_by_key(key, own) else {
             return Sight::Absent;
         };
         if let Some(lapse) = lapse_of(&found, &self.expiration_policy, self.valid_after, now) {
@@ -40,7 +40,7 @@ impl<
     pub fn is_applied(&self, key: &K) -> Option<bool>
     {
         let own = self.inner.index_hash(key);
-        let (_, found) = self.inner.find(key, own)?;
+        let (_, found) = self.inner.store().find_by_key(key, own)?;
         Some(found.is_settled())
     }
 
@@ -49,7 +49,7 @@ impl<
     pub fn weight(&self, key: &K) -> Option<u32>
     {
         let own = self.inner.index_hash(key);
-        let (_, found) = self.inner.find(key, own)?;
+        let (_, found) = self.inner.store().find_by_key(key, own)?;
         Some(found.weight())
     }
 

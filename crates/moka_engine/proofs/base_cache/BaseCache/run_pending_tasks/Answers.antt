@@ -26,14 +26,14 @@ invariant_of-self-2 g c =
     run_keeps_whole c.self.view_is c.self.inside.inner c.apply_queues.new.self c.make_passes-ran.new.self refl c.self.invariant (sym c.is_map_disabled.ensures ∙ c.if-is_map_disabled.false)
     c.is_some.ensures c.apply_queues.ensures.prepared c.apply_queues.ensures.rest c.apply_queues.ensures.timers c.make_passes-ran.ensures.timers
     (record { now = c.args.now.0; limit = option_map as_nanos c.args.limit; batch = c.args.batch }) (rw (c.time_to_live.ensures, c.time_to_idle.ensures) refl) (limited g (goal.at.invariant_of-self-2 g c).After-limit_of_run-limit)
-    c.make_passes-ran.ensures.ran c.make_passes-ran.ensures.rest c.member_count.result c.saturated-self-inside.result c.member_count.ensures (c.saturated-self-inside.ensures ∙ ap (λ n. min n greatest) c.total_weight.ensures)
+    c.make_passes-ran.ensures.ran c.make_passes-ran.ensures.rest c.member_count.result c.saturated-self-inside.result (rw c.store-store.ensures at c.member_count.ensures.value) (c.saturated-self-inside.ensures ∙ ap (λ n. min n greatest) (rw c.store-store.ensures at c.total_weight.ensures))
 
 pub returns-clause-step : goal.returns-clause-step
 returns-clause-step g c =
     cache_runs c.self.view_is c.self.inside.inner c.apply_queues.new.self c.make_passes-ran.new.self refl c.self.invariant (sym c.is_map_disabled.ensures ∙ c.if-is_map_disabled.false)
     c.is_some.ensures c.apply_queues.ensures.prepared c.apply_queues.ensures.rest c.apply_queues.ensures.timers c.make_passes-ran.ensures.timers
     (record { now = c.args.now.0; limit = option_map as_nanos c.args.limit; batch = c.args.batch }) (rw (c.time_to_live.ensures, c.time_to_idle.ensures) refl) (limited g (goal.at.returns-clause-step g c).After-limit_of_run-limit)
-    c.make_passes-ran.ensures.ran c.make_passes-ran.ensures.rest c.member_count.result c.saturated-self-inside.result c.member_count.ensures (c.saturated-self-inside.ensures ∙ ap (λ n. min n greatest) c.total_weight.ensures)
+    c.make_passes-ran.ensures.ran c.make_passes-ran.ensures.rest c.member_count.result c.saturated-self-inside.result (rw c.store-store.ensures at c.member_count.ensures.value) (c.saturated-self-inside.ensures ∙ ap (λ n. min n greatest) (rw c.store-store.ensures at c.total_weight.ensures))
     c.make_passes-ran.ensures.none
 
 pub returns-clause-exact : goal.returns-clause-exact
@@ -41,7 +41,7 @@ returns-clause-exact g c =
     run_ends_exact c.self.view_is c.self.inside.inner c.apply_queues.new.self c.make_passes-ran.new.self refl c.self.invariant (sym c.is_map_disabled.ensures ∙ c.if-is_map_disabled.false)
     c.is_some.ensures c.apply_queues.ensures.prepared c.apply_queues.ensures.rest c.apply_queues.ensures.timers c.make_passes-ran.ensures.timers
     (record { now = c.args.now.0; limit = option_map as_nanos c.args.limit; batch = c.args.batch }) (rw (c.time_to_live.ensures, c.time_to_idle.ensures) refl) (limited g (goal.at.returns-clause-exact g c).After-limit_of_run-limit)
-    c.make_passes-ran.ensures.ran c.make_passes-ran.ensures.rest c.member_count.result c.saturated-self-inside.result c.member_count.ensures (c.saturated-self-inside.ensures ∙ ap (λ n. min n greatest) c.total_weight.ensures)
+    c.make_passes-ran.ensures.ran c.make_passes-ran.ensures.rest c.member_count.result c.saturated-self-inside.result (rw c.store-store.ensures at c.member_count.ensures.value) (c.saturated-self-inside.ensures ∙ ap (λ n. min n greatest) (rw c.store-store.ensures at c.total_weight.ensures))
 
 pub returns-clause-idle : goal.returns-clause-idle
 returns-clause-idle g c = λ _ zero.
