@@ -257,6 +257,13 @@ impl Both {
         assert_eq!(self.store.counted(handle), counted);
     }
 
+    /// Which number the store finds under a key.
+    fn agrees_on_key(&self, key: u64) {
+        let found = self.store.find_by_key(&key, self.hash(key));
+        let kept = self.records.iter().find(|(_, it)| it.key == key);
+        assert_eq!(found.map(|(handle, _)| handle.number), kept.map(|(&number, _)| number));
+    }
+
     /// That the store says the same of all that there is.
     fn agree(&self) {
         let (mut member, mut access) = (self.store.front(), Vec::new());
@@ -278,19 +285,7 @@ impl Both {
             self.access.iter().map(|it| u128::from(it.1)).sum()
         );
         self.handles.values().for_each(|&handle| self.agrees_on(handle));
-        for key in 0..KEYS {
-            let found = self
-                .store
-                .find_by_key(&key, self.hash(key))
-                .map(|(handle, _)| handle.number);
-            assert_eq!(
-                found,
-                self.records
-                    .iter()
-                    .find(|(_, it)| it.key == key)
-                    .map(|(&number, _)| number)
-            );
-        }
+        (0..KEYS).for_each(|key| self.agrees_on_key(key));
         let keys = self.store.keys(Global).expect("memory");
         let (mut keys, mut expected): (Vec<u64>, Vec<u64>) = (
             keys.iter().copied().collect(),

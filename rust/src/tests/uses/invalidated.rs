@@ -1,4 +1,5 @@
-//! Tests of `moka_engine_uses::driven` and `moka_engine_uses::invalidated`: a list of calls puts numbers in, which a predicate hides.
+//! Tests of `moka_engine_uses::driven` and `moka_engine_uses::invalidated`: a list of calls puts numbers in, which a
+//! predicate hides.
 
 use super::NOW;
 use crate::callers::moka_engine_uses::driven::make_calls;
