@@ -15,13 +15,13 @@ use Rattle.moka_calls.specs.declared.entry.CacheEntry.{CacheEntry}
 use Rattle.moka_calls.specs.declared.error.GetWithRefused.{GetWithRefused}
 use Rattle.moka_calls.specs.declared.error.GetWithRefused.TheVariants.{Insert}
 use Rattle.moka_calls.specs.Synchronous.{Makes, hears_clones, InsertsMade, GetsValue, RemovesEntry, HandsOutOwn}
-use Rattle.moka_calls.specs.Entries.{entry_value, IsFresh}
+use Rattle.moka_calls.specs.Entry.{entry_value, IsFresh}
 use Rattle.moka_calls.specs.Given.{Sees}
 use Rattle.moka_calls.specs.declared.compute.CompResult.{CompResult}
 use Rattle.moka_calls.specs.declared.compute.ComputeRefused.{ComputeRefused}
 use Rattle.moka_calls.specs.declared.compute.CompResult.TheVariants.{Inserted, ReplacedWith}
 use Rattle.moka_calls.specs.declared.compute.ComputeRefused.TheVariants as compute_refused
-use Rattle.moka_calls.specs.Computing.{InTurn, Upserts, HandsOutUpserted, Puts, Takes, Computes, HandsOutComputedPut, HandsOutTaken}
+use Rattle.moka_calls.specs.Compute.{InTurn, Upserts, HandsOutUpserted, Puts, Takes, Computes, HandsOutComputedPut, HandsOutTaken}
 use Rattle.moka_cache.specs.Keyed.{IsNotOfNotice, IsOfChange}
 use Rattle.moka_calls.proofs.Made.{made_then, made_more}
 use Rattle.moka_cache.proofs.Entries.{same_hash}

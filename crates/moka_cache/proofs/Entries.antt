@@ -16,7 +16,7 @@ use Rattle.moka_calls.specs.Given.{IsHandedOut, if_made, without_error}
 use Rattle.moka_calls.specs.declared.error.GetWithRefused.{GetWithRefused}
 use Rattle.moka_calls.specs.Synchronous.{Made, Makes, InsertsMade, IsGotWith, IsGotWithIfMade, IsGotWithIfNoError, GetsOrInserts, HandsOutOwn, Synchronous}
 use Rattle.moka_calls.specs.declared.entry.CacheEntry.{CacheEntry}
-use Rattle.moka_calls.specs.Entries.{HandsOutPut, IsEntryOf, OrInsertsIfMade, OrInsertsIfNoError, OrInsertsMade, entry_value, entry_value_if_made, entry_value_if_no_error}
+use Rattle.moka_calls.specs.Entry.{HandsOutPut, IsEntryOf, OrInsertsIfMade, OrInsertsIfNoError, OrInsertsMade, entry_value, entry_value_if_made, entry_value_if_no_error}
 use Rattle.moka_cache.proofs.Getting.{always_answers, got_then, made_keeps_hasher, may_decline}
 
 module _ {K V S X L P W C : Type 0} (m : Meaning K V X L P W C (Unit {0})) where

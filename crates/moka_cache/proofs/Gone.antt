@@ -12,7 +12,7 @@ use Rattle.moka_parts.specs.State.{State}
 use Rattle.moka_records.proofs.Lookup.{record_of_key_found, absent_key, present_key}
 use Rattle.moka_records.proofs.Maps.{same_or_apart, get_removed, get_past_remove}
 use Rattle.moka_laws.proofs.RunKeeps.{Keeps}
-use Rattle.moka_cache.specs.Saved.{KeepsRecords}
+use Rattle.moka_cache.specs.Saves.{KeepsRecords}
 
 module _ {K V : Type 0} (eq : K → K → Bool) (key : K) where
   -- no record has the key

@@ -7,7 +7,7 @@ use Rattle.moka_parts.specs.Runs.{Engine}
 use Rattle.moka_types.specs.declared.error.InsertRefused.{InsertRefused}
 use Rattle.moka_records.specs.declared.instant.Instant.{Instant}
 use Rattle.moka_calls.specs.Synchronous.{InsertsEntry, Makes}
-use Rattle.moka_calls.specs.Computing.{InTurn}
+use Rattle.moka_calls.specs.Compute.{InTurn}
 use Rattle.moka_calls.specs.Many.{Each}
 use Rattle.moka_calls.proofs.Made.{made_nothing, made_then}
 use Rattle.moka_cache.proofs.Getting.{made_keeps_hasher}

@@ -21,7 +21,7 @@ use Rattle.moka_records.proofs.Lookup.{record_of_key_found, present_key}
 use Rattle.moka_records.proofs.Maps.{get_inserted, get_past_insert, same_or_apart}
 use Rattle.moka_laws.proofs.RunKeeps.{Keeps, keeps_itself, run_keeps}
 use Rattle.moka_laws.proofs.Kept.{kept_by_run, kept_by_due, kept_by_send}
-use Rattle.moka_cache.specs.Saved.{KeepsRecords}
+use Rattle.moka_cache.specs.Saves.{KeepsRecords}
 
 -- one after the other
 pub keeps_then : {K V : Type 0} (a b c : Records K V) → Keeps a b → Keeps b c → Keeps a c

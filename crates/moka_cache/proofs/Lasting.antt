@@ -33,7 +33,7 @@ use Rattle.moka_records.proofs.Options.{none_by_test}
 use Rattle.moka_laws.proofs.Tickets.{all_of}
 use Rattle.moka_laws.proofs.Kept.{kept_by_run, kept_by_send}
 use Rattle.moka_engine.specs.parts.Restored.{Restored}
-use Rattle.moka_cache.specs.Saved.{HasRoomFor, IsRoomyFor, KeepsUnexpired, TakesOnlyExpired, WeighAtMost}
+use Rattle.moka_cache.specs.Saves.{HasRoomFor, IsRoomyFor, KeepsUnexpired, TakesOnlyExpired, WeighAtMost}
 use Rattle.moka_cache.proofs.Alike.{none_kept}
 use Rattle.moka_cache.proofs.Roomy.{FitsIn, enters, enters_again, fits_still, left, moved_back, taken_out, never_over, newcomer_has_room}
 use Rattle.moka_cache.proofs.Stays.{noted_by, kept_by_writes}

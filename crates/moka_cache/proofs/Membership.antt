@@ -10,7 +10,7 @@ use Rattle.moka_records.specs.Records.{counted_of, is_member}
 use Rattle.moka_parts.specs.Settling.{IsTracked, IsWaiting, IsValid}
 use Rattle.moka_parts.specs.State.{State, Events, is_disabled}
 use Rattle.moka_records.proofs.Maps.{nothing_at}
-use Rattle.moka_cache.specs.Saved.{HasOnlyMembers}
+use Rattle.moka_cache.specs.Saves.{HasOnlyMembers}
 use Rattle.moka_laws.proofs.Alike.{listed_run_alike}
 use Rattle.moka_cache.proofs.Posting.{listed_run_empties}
 

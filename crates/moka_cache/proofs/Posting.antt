@@ -18,7 +18,7 @@ use Rattle.moka_parts.specs.Runs.{Engine, Befalls}
 use Rattle.moka_parts.specs.Listed.{ListedRun}
 use Rattle.moka_laws.proofs.Kept.{kept_by_run, kept_by_due}
 use Rattle.moka_laws.proofs.RunKeeps.{keeps_itself}
-use Rattle.moka_cache.specs.Saved.{KeepsRecords, TakesOnlyExpired}
+use Rattle.moka_cache.specs.Saves.{KeepsRecords, TakesOnlyExpired}
 use Rattle.moka_calls.specs.Synchronous.{Made, Makes, Posts, own_run}
 use Rattle.moka_cache.specs.Unsent.{IsHeld, AreOlder, HoldsUnsent, HidesNoMore}
 use Rattle.moka_cache.proofs.Alike.{itself, then, none_kept, send_hides}

@@ -14,7 +14,7 @@ use Rattle.moka_records.proofs.Lookup.{present_key}
 use Rattle.moka_records.proofs.Maps.{same_or_apart, get_inserted, get_past_insert}
 use Rattle.moka_engine.specs.parts.Restored.{Restored}
 use Rattle.moka_engine.specs.Restores.{RestoreStep, restored, restored_record}
-use Rattle.moka_cache.specs.Saved.{AddsOnly, IsOfItem, IsRestored, KeepsRecords, PutsBack, PutsAllBack}
+use Rattle.moka_cache.specs.Saves.{AddsOnly, IsOfItem, IsRestored, KeepsRecords, PutsBack, PutsAllBack}
 use Rattle.moka_cache.specs.Unsent.{IsHeld, AreOlder, HoldsUnsent}
 use Rattle.moka_cache.proofs.Put.{next_is_newest}
 

@@ -2,8 +2,8 @@
 use Rattle.std.proofs.Common.{◌≡◌, refl, Bool, List, [], ◌∷◌, ◌++◌, append_assoc, append-nil, inl, inr, Some, None, ap, sym, subst, ◌∙◌}
 use Rattle.moka_records.specs.declared.records.Member.{Member}
 use Rattle.moka_engine.specs.parts.Restored.{Restored}
-use Rattle.moka_engine.specs.Snapshots.{Scene, Seen, IsListed, ArePassed, ListsNext}
-use Rattle.moka_cache.specs.Saved.{AreSaved, IsSaved}
+use Rattle.moka_engine.specs.Snapshot.{Scene, Seen, IsListed, ArePassed, ListsNext}
+use Rattle.moka_cache.specs.Saves.{AreSaved, IsSaved}
 
 module _ {K V X P : Type 0} (says : P → K → V → Bool → Type 0) (is_key_clone : K → K → Type 0) (is_value_clone : V → V → Type 0) (c : Scene K V X P) where
   -- these members' entries

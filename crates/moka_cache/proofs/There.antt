@@ -20,7 +20,7 @@ use Rattle.moka_records.proofs.Values.{values_inserted}
 use Rattle.moka_engine.specs.parts.Restored.{Restored}
 use Rattle.moka_engine.specs.Restores.{RestoreStep, restored, restored_record}
 use Rattle.moka_cache.proofs.Restoring.{of_applied}
-use Rattle.moka_cache.specs.Saved.{AreAsWeighed, HasRoomFor, IsOfItem, IsRestored, IsRoomyFor, KeepsUnexpired, TakesOnlyExpired, has_expired}
+use Rattle.moka_cache.specs.Saves.{AreAsWeighed, HasRoomFor, IsOfItem, IsRestored, IsRoomyFor, KeepsUnexpired, TakesOnlyExpired, has_expired}
 
 module _ {K V X P W : Type 0} (eq : K → K → Bool) where
   -- putting an entry back takes nothing out, and leaves room for the others

@@ -7,7 +7,7 @@ use Rattle.moka_parts.specs.Calls.{no_events}
 use Rattle.moka_parts.specs.Exact.{IsExact, IsWithin}
 use Rattle.moka_parts.specs.Runs.{Befalls}
 use Rattle.moka_parts.specs.State.{Meaning}
-use Rattle.moka_cache.specs.Saved.{HasOnlyMembers}
+use Rattle.moka_cache.specs.Saves.{HasOnlyMembers}
 use Rattle.moka_calls.specs.Synchronous.{Synchronous, Makes, Just, own_run}
 
 -- a cache hides what was written or read before the moment

@@ -1,7 +1,7 @@
 pub mod Unsent
 pub mod Keyed
 pub mod Visible
-pub mod Saved
+pub mod Saves
 pub mod Each
 pub mod parts
 pub use Rattle.moka_calls.specs.Synchronous
@@ -10,8 +10,8 @@ pub use Rattle.moka_calls.specs.Texts
 pub use Rattle.moka_calls.specs.Given
 pub use Rattle.moka_calls.specs.Counted
 pub use Rattle.moka_calls.specs.Removed
-pub use Rattle.moka_calls.specs.Entries
-pub use Rattle.moka_calls.specs.Computing
+pub use Rattle.moka_calls.specs.Entry
+pub use Rattle.moka_calls.specs.Compute
 pub use Rattle.moka_calls.specs.Many
 pub use Rattle.moka_calls.specs.Limits
 pub use Rattle.moka_calls.specs.Registering

@@ -20,7 +20,7 @@ ghost use Rattle.moka_cache.specs.Keyed.{CanNotify, Gets, Inserts, IsOfClone, Is
 ghost use Rattle.moka_cache.specs.Unsent.{HoldsUnsent, HidesNoMore, IsThere, ShowsWrites};
 ghost use Rattle.moka_parts.specs.Counters.{after_look_up, after_load};
 ghost use Rattle.moka_calls.specs.Given.{Sees};
-ghost use Rattle.moka_cache.specs.Saved.{HasOnlyMembers, KeepsRecords, TakesOnlyExpired};
+ghost use Rattle.moka_cache.specs.Saves.{HasOnlyMembers, KeepsRecords, TakesOnlyExpired};
 ghost use Rattle.moka_calls.specs.Synchronous.{fresh, InsertsMade, HandsOutOwn, Makes, meaning_of, hears_clones, Just, own_run, Posts, InsertsEntry, GetsValue, RemovesEntry, removed, invalidated, taken_out, GetsWith, GetsWithIfMade, GetsWithIfNoError};
 
 use moka_calls::answers::{always_made, if_made, invalidated, removed, value_of};

@@ -4,7 +4,7 @@ ghost use Rattle.moka_parts.specs.State.{is_disabled};
 ghost use Rattle.moka_records.specs.Records.{record_of_key};
 ghost use Rattle.moka_types.specs.declared.error.InsertRefused.{InsertRefused};
 ghost use Rattle.moka_types.specs.declared.error.OutOfMemory.{OutOfMemory};
-ghost use Rattle.moka_calls.specs.Computing.{HandsOutComputedPut, HandsOutTaken, AndComputes};
+ghost use Rattle.moka_calls.specs.Compute.{HandsOutComputedPut, HandsOutTaken, AndComputes};
 ghost use Rattle.moka_calls.specs.Given.{Sees};
 ghost use Rattle.moka_records.specs.Hashing.{key_hash};
 ghost use Rattle.moka_engine.specs.Looks.{CanHandOutValue};

@@ -2,7 +2,7 @@
 ghost use Rattle.std.specs.Prelude.{◌≡◌, true, Result, IfOk, IfErr};
 ghost use Rattle.moka_types.specs.declared.error.InsertRefused.{InsertRefused};
 ghost use Rattle.moka_parts.specs.State.{is_disabled};
-ghost use Rattle.moka_calls.specs.Entries.{entry_value, IsFresh};
+ghost use Rattle.moka_calls.specs.Entry.{entry_value, IsFresh};
 ghost use Rattle.moka_records.specs.Hashing.{key_hash};
 ghost use Rattle.moka_cache.specs.Keyed.{MayFail};
 ghost use Rattle.moka_calls.specs.Synchronous.{Makes, meaning_of, InsertsMade, HandsOutOwn};

@@ -19,10 +19,10 @@ use Rattle.moka_calls.specs.declared.many.GetManyRefused.{GetManyRefused}
 use Rattle.moka_calls.specs.declared.many.InsertManyRefused.{InsertManyRefused}
 use Rattle.moka_calls.specs.declared.many.InvalidateManyRefused.{InvalidateManyRefused}
 use Rattle.moka_parts.specs.declared.stats.Stats.{Stats}
-use Rattle.moka_calls.specs.Computing.{Computed, Computes, InTurn, Upserts}
-use Rattle.moka_calls.specs.Computing.Computed.{Left, LeftNone, Puts, Takes}
+use Rattle.moka_calls.specs.Compute.{Computed, Computes, InTurn, Upserts}
+use Rattle.moka_calls.specs.Compute.Computed.{Left, LeftNone, Puts, Takes}
 use Rattle.moka_parts.specs.Counters.{after_look_up, after_look_ups, after_get_with}
-use Rattle.moka_calls.specs.Entries.{after_get_or_insert}
+use Rattle.moka_calls.specs.Entry.{after_get_or_insert}
 use Rattle.moka_calls.specs.Many.{Each, GetsItem, GetsMany, InsertsItem, InsertsMany, Invalidates, InvalidatesMany, found_by}
 use Rattle.moka_calls.specs.Counted.{is_hit, is_miss, is_look_up, loads_of, AreCounters, IsCounted, Counts, CountsCalls, AddsUp, SumsToLookUps}
 use Rattle.moka_calls.specs.Synchronous.{Just, own_run, Posts, GetsValue, InsertsMade, GetsOrInserts, GetsOrInsertsIfMade, GetsOrInsertsIfNoError, InsertsEntry, RemovesEntry, value_found}

@@ -13,8 +13,8 @@ use Rattle.moka_parts.specs.State.{State, Meaning, Events}
 use Rattle.moka_laws.proofs.EachCall.{IsKept, kept_by_call}
 use Rattle.moka_laws.proofs.Kept.{kept_by_run}
 use Rattle.moka_calls.specs.Synchronous.{Posts, InsertsEntry, GetsValue, RemovesEntry, InsertsMade, GetsOrInserts, GetsOrInsertsIfMade, GetsOrInsertsIfNoError}
-use Rattle.moka_calls.specs.Computing.{Computed, Computes, InTurn, Upserts}
-use Rattle.moka_calls.specs.Computing.Computed.{Left, LeftNone, Puts, Takes}
+use Rattle.moka_calls.specs.Compute.{Computed, Computes, InTurn, Upserts}
+use Rattle.moka_calls.specs.Compute.Computed.{Left, LeftNone, Puts, Takes}
 use Rattle.moka_calls.specs.Limits.{HasSameLimits, SetsNoCapacity, SetNoCapacity, SetNone, KeepsLimits, CallsSetNoCapacity, ManySetNoCapacity}
 use Rattle.moka_calls.specs.Many.{Each, GetsItem, GetsMany, InsertsItem, InsertsMany, Invalidates, InvalidatesMany}
 use Rattle.moka_calls.specs.declared.error.NotTold.{NotTold}

@@ -16,9 +16,9 @@ use Rattle.moka_calls.specs.declared.many.GetManyRefused.{GetManyRefused}
 use Rattle.moka_calls.specs.declared.many.InsertManyRefused.{InsertManyRefused}
 use Rattle.moka_calls.specs.declared.many.InvalidateManyRefused.{InvalidateManyRefused}
 use Rattle.moka_parts.specs.declared.stats.Stats.{Stats}
-use Rattle.moka_calls.specs.Computing.{Computed, Computes, Upserts}
+use Rattle.moka_calls.specs.Compute.{Computed, Computes, Upserts}
 use Rattle.moka_parts.specs.Counters.{no_stats, after_look_up, after_look_ups, after_get_with}
-use Rattle.moka_calls.specs.Entries.{after_get_or_insert}
+use Rattle.moka_calls.specs.Entry.{after_get_or_insert}
 use Rattle.moka_calls.specs.Many.{GetsMany, InsertsMany, InvalidatesMany, found_by}
 use Rattle.moka_calls.specs.Synchronous.{Just, own_run, GetsValue, GetsOrInserts, GetsOrInsertsIfMade, GetsOrInsertsIfNoError, InsertsEntry, RemovesEntry}
 

@@ -3,8 +3,8 @@ pub mod Synchronous
 pub mod Laws
 pub mod Counted
 pub mod Removed
-pub mod Entries
-pub mod Computing
+pub mod Entry
+pub mod Compute
 pub mod Many
 pub mod Limits
 pub mod Registering

@@ -13,7 +13,7 @@ use Rattle.moka_parts.specs.State.{State, Meaning}
 use Rattle.moka_calls.specs.declared.many.GetManyRefused.{GetManyRefused}
 use Rattle.moka_calls.specs.declared.many.InsertManyRefused.{InsertManyRefused}
 use Rattle.moka_calls.specs.declared.many.InvalidateManyRefused.{InvalidateManyRefused}
-use Rattle.moka_calls.specs.Computing.{Computed, Computes, Upserts}
+use Rattle.moka_calls.specs.Compute.{Computed, Computes, Upserts}
 use Rattle.moka_calls.specs.Many.{GetsMany, InsertsMany, InvalidatesMany}
 use Rattle.moka_calls.specs.Synchronous.{Made, InsertsEntry, GetsValue, RemovesEntry, GetsOrInserts, GetsOrInsertsIfMade, GetsOrInsertsIfNoError}
 

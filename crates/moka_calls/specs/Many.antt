@@ -12,7 +12,7 @@ use Rattle.moka_calls.specs.declared.error.NotTold.{NotTold}
 use Rattle.moka_calls.specs.declared.many.GetManyRefused.{GetManyRefused}
 use Rattle.moka_calls.specs.declared.many.InsertManyRefused.{InsertManyRefused}
 use Rattle.moka_calls.specs.declared.many.InvalidateManyRefused.{InvalidateManyRefused}
-use Rattle.moka_calls.specs.Computing.{InTurn}
+use Rattle.moka_calls.specs.Compute.{InTurn}
 use Rattle.moka_calls.specs.Synchronous.{GetsValue, InsertsEntry, RemovesEntry, invalidated}
 
 -- the calls of each item, in order

@@ -46,7 +46,7 @@ pub enum ComputeRefused<K, V> {
 
 impl<K, V> fmt::Display for ComputeRefused<K, V> {
     ghost use Rattle.std.specs.Prelude.{Some};
-    ghost use Rattle.moka_calls.specs.Computing.{compute_text};
+    ghost use Rattle.moka_calls.specs.Compute.{compute_text};
 
     ghost output = { λ refused. Some (compute_text refused) };
 

@@ -14,7 +14,7 @@ use Rattle.moka_parts.specs.Surroundings.{Heard}
 use Rattle.moka_records.proofs.Lookup.{present_key}
 use Rattle.moka_store.specs.Store.{Kept}
 use Rattle.moka_store.proofs.Gets.{after_insert, after_remove}
-use Rattle.moka_engine.specs.BaseCache.{IsCache, IsStocked, IsWhole}
+use Rattle.moka_engine.specs.BaseCache.{IsCache, IsStocked, IsEngine}
 use Rattle.moka_lookups.specs.Expirations.{NoneExpires}
 use Rattle.moka_engine.proofs.Stocked.{stocked-roomier}
 use Rattle.moka_inner.specs.Interior.{Interior}
@@ -113,7 +113,7 @@ module _ {K V X L P W : Type 0} {eq : K → K → Bool} {l : Option L} {s : Stat
     own-inside laws n r there = present_key eq s.records r.key laws h.valid.numbered.numbered.one_each n r (there-inside n r there) (laws.refl r.key)
 
 -- once there is more room
-pub whole-roomier : {K V X L P W S : Type 0} {eq : K → K → Bool} {read : X → K → V → ℕ → Option ℕ → ℕ → Option ℕ} {l : Option L} {s : State K V X P W} (i j : Interior K V S) → IsWhole eq read l i.kept s → with_inner s i ≡ s → without_room j ≡ without_room i → IsWhole eq read l j.kept (with_inner s j)
+pub whole-roomier : {K V X L P W S : Type 0} {eq : K → K → Bool} {read : X → K → V → ℕ → Option ℕ → ℕ → Option ℕ} {l : Option L} {s : State K V X P W} (i j : Interior K V S) → IsEngine eq read l i.kept s → with_inner s i ≡ s → without_room j ≡ without_room i → IsEngine eq read l j.kept (with_inner s j)
 whole-roomier {eq = eq} {l = l} {s = s} i j h inside rooms = record {
   cache = subst (IsCache eq l) (sym (inside-roomier s i j inside rooms)) h.cache;
   store = stocked-room i j rooms h.store;

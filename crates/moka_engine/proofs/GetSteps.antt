@@ -28,10 +28,10 @@ use Rattle.moka_laws.proofs.StepsKeep.{hit_valid, valid_with}
 use Rattle.moka_store.specs.declared.store.Handle.{Handle}
 use Rattle.moka_store.specs.Store.{Kept}
 use Rattle.moka_inner.specs.Interior.{Interior}
-use Rattle.moka_engine.specs.BaseCache.{IsStocked, IsWhole}
+use Rattle.moka_engine.specs.BaseCache.{IsStocked, IsEngine}
 use Rattle.moka_lookups.specs.Expirations.{expirations_of, expiring_by}
 use Rattle.moka_engine.specs.Looks.{LooksUp}
-use Rattle.moka_lookups.specs.Looks.{IsFound, Touches, entry_at}
+use Rattle.moka_lookups.specs.Gets.{IsFound, Touches, entry_at}
 use Rattle.moka_engine.specs.Makes.{Takes}
 use Rattle.moka_engine.proofs.EngineSteps.{with_inner, cache_with, order_and_hasher, cache_changed, befalls-inside, unexpiring-inserted, cache-inner, there-inside, number-inside, own-inside}
 use Rattle.moka_laws.proofs.Quiet.{befalls-nothing}
@@ -77,7 +77,7 @@ pub record IsNoted {K V X S : Type 0} (read : X → K → V → ℕ → Option �
   pub kept : j.kept ≡ record i.kept { records = insert i.kept.records n (record r { read = at; expires = expires }) }
 
 module _ {K V X L P W S : Type 0} {eq : K → K → Bool} {l : Option L} {s : State K V X P W} {read : X → K → V → ℕ → Option ℕ → ℕ → Option ℕ} {i j : Interior K V S} {n : ℕ} {r : Record K V} {now : ℕ} {at : Instant} {expires : Option Instant} {is_renewed : Bool}
-    (h : IsWhole eq read l i.kept s) (noted : IsNoted read (expirations_of s.settings) i j n r now at expires is_renewed) (inside : with_inner s i ≡ s) where
+    (h : IsEngine eq read l i.kept s) (noted : IsNoted read (expirations_of s.settings) i j n r now at expires is_renewed) (inside : with_inner s i ≡ s) where
   number : r.number ≡ n
   number = (number-inside h.cache i inside n r noted.there).0
 
@@ -99,7 +99,7 @@ module _ {K V X L P W S : Type 0} {eq : K → K → Bool} {l : Option L} {s : St
     own = own-inside h.cache i inside laws n r noted.there
 
     -- what always holds of the cache
-    pub whole-noted : IsWhole eq read l j.kept (with_inner s j)
+    pub whole-noted : IsEngine eq read l j.kept (with_inner s j)
     whole-noted = record {
       cache = cache-inner h.cache l refl j record_read (hit_valid eq (λ _ _ _ _. ⊥) read s r.key r now own h.cache.valid)
           (λ none. unexpiring-inserted s.records (h.cache.served.unexpiring none) r.number (hit_record read s r now)
@@ -120,8 +120,8 @@ pub reads_queued : {K V X P W S : Type 0} (s : State K V X P W) (i : Interior K 
 reads_queued s i inside operation j step = ap (with_inner s) step ∙ ap (λ t. queueing t operation) inside
 
 -- what always holds of the cache after that
-pub whole-queued : {K V X L P W S : Type 0} {eq : K → K → Bool} {l : Option L} {s : State K V X P W} {read : X → K → V → ℕ → Option ℕ → ℕ → Option ℕ} (i : Interior K V S) → IsWhole eq read l i.kept s → with_inner s i ≡ s → (operation : ReadOperation) (j : Interior K V S)
-    → j ≡ record i { reads = if nat_lt (length i.reads) queue_length then i.reads ++ operation ∷ [] else i.reads } → IsWhole eq read l j.kept (with_inner s j)
+pub whole-queued : {K V X L P W S : Type 0} {eq : K → K → Bool} {l : Option L} {s : State K V X P W} {read : X → K → V → ℕ → Option ℕ → ℕ → Option ℕ} (i : Interior K V S) → IsEngine eq read l i.kept s → with_inner s i ≡ s → (operation : ReadOperation) (j : Interior K V S)
+    → j ≡ record i { reads = if nat_lt (length i.reads) queue_length then i.reads ++ operation ∷ [] else i.reads } → IsEngine eq read l j.kept (with_inner s j)
 whole-queued {eq = eq} {l = l} {s = s} {read = read} i h inside operation j step = record {
   cache = cache-inner h.cache l refl j (reads_queued s i inside operation j step) (valid_with eq s (queueing s operation).reads s.invalid_before s.predicates s.housekeeping h.cache.valid) h.cache.served.unexpiring;
   store = subst (λ (x : Interior _ _ _). IsStocked read s.settings x.kept) (sym step) h.store;
@@ -176,7 +176,7 @@ module _ {K V S X L P W C : Type 0} (says : P → K → V → Bool → Type 0) (
           let made = recorded enabled in
           (made.0, missed says read sought hash need_key ignored moment.0 (ListedRun says read old.write_list new.write_list) old.state enabled hidden made.0 new.state made.1, made.2, made.3)
 
-  module _ {eq : K → K → Bool} {l : Option L} {handle : Handle} {r : Record K V} (laws : IsEquivalence eq) (i : Interior K V S) (h : IsWhole eq read l i.kept old.state)
+  module _ {eq : K → K → Bool} {l : Option L} {handle : Handle} {r : Record K V} (laws : IsEquivalence eq) (i : Interior K V S) (h : IsEngine eq read l i.kept old.state)
       (at : IsFound i.kept (expirations_of old.state.settings) old.state.invalid_before says old.state.predicates (sought i.kept.records) ignored moment.0 handle r) (held : cache_with old i ≡ old) where
     inside : with_inner old.state i ≡ old.state
     inside = ap (λ (c : Engine K V S X L P W). c.state) held

@@ -23,7 +23,7 @@ use Rattle.moka_laws.proofs.CallsKeep.{inserted_valid, replaced_valid}
 use Rattle.moka_table.specs.Updates.{updated}
 use Rattle.moka_table.specs.declared.table.Update.{Update}
 use Rattle.moka_inner.specs.Interior.{Interior, first_record, handing_out_inside}
-use Rattle.moka_engine.specs.BaseCache.{IsCache, IsStocked, IsWhole}
+use Rattle.moka_engine.specs.BaseCache.{IsCache, IsStocked, IsEngine}
 use Rattle.moka_lookups.specs.Expirations.{expirations_of, expiring_by}
 use Rattle.moka_engine.proofs.Stocked.{stocked-inserted, update_waits}
 use Rattle.moka_engine.proofs.EngineSteps.{with_inner, cache_with, order_and_hasher, cache_changed, without_room, inside-roomier, stocked-room, befalls-inside, unexpiring-inserted, cache-inner, there-inside, number-inside, key-inside}
@@ -82,7 +82,7 @@ module _ {K V X P W S : Type 0} (created : X → K → V → ℕ → Option ℕ)
 
 -- ---- what always holds of the cache, once room was made
 
-module _ {K V X L P W S : Type 0} {eq : K → K → Bool} {read : X → K → V → ℕ → Option ℕ → ℕ → Option ℕ} {l : Option L} {s : State K V X P W} (created : X → K → V → ℕ → Option ℕ) (before i j : Interior K V S) (h : IsWhole eq read l before.kept s) (inside_before : with_inner s before ≡ s) (rooms : without_room i ≡ without_room before) (key : K) (hash : ℕ) (update : Update V) where
+module _ {K V X L P W S : Type 0} {eq : K → K → Bool} {read : X → K → V → ℕ → Option ℕ → ℕ → Option ℕ} {l : Option L} {s : State K V X P W} (created : X → K → V → ℕ → Option ℕ) (before i j : Interior K V S) (h : IsEngine eq read l before.kept s) (inside_before : with_inner s before ≡ s) (rooms : without_room i ≡ without_room before) (key : K) (hash : ℕ) (update : Update V) where
   inside : with_inner s i ≡ s
   inside = inside-roomier s before i inside_before rooms
 
@@ -91,7 +91,7 @@ module _ {K V X L P W S : Type 0} {eq : K → K → Bool} {read : X → K → V 
 
   -- after an insert of a key that is there
   pub whole-updated : (updating : X → K → V → ℕ → Option ℕ → Option ℕ) (m : Option L) → is_some m ≡ is_some l → (n : ℕ) (r : Record K V) → get before.kept.records n ≡ Some r → record_of_key eq before.kept.records key ≡ Some r → ExpiresUpdated created updating s key update r
-      → j ≡ handing_out_inside i (insert i.kept.records n (updated update r)) (Upsert n (r.generation + 1) update.weight hash) j → IsWhole eq read m j.kept (with_inner s j)
+      → j ≡ handing_out_inside i (insert i.kept.records n (updated update r)) (Upsert n (r.generation + 1) update.weight hash) j → IsEngine eq read m j.kept (with_inner s j)
   whole-updated updating m same n r here found is step =
       let there = there-inside h.cache before inside_before n r here in
       let q : Record K V = updated_record created updating s r key update.value update.now update.weight in
@@ -104,7 +104,7 @@ module _ {K V X L P W S : Type 0} {eq : K → K → Bool} {read : X → K → V 
 
   -- after an insert of a new key
   pub whole-inserted : IsEquivalence eq → is_disabled s.capacity ≡ false → record_of_key eq before.kept.records key ≡ None → update.expires ≡ expires_at_first created s.settings.expiry key update.value update.now.0
-      → j ≡ record (handing_out_inside i (with_record i.kept.records (first_record i.next_number key hash update)) (Upsert i.next_number 1 update.weight hash) j) { next_number = i.next_number + 1 } → IsWhole eq read l j.kept (with_inner s j)
+      → j ≡ record (handing_out_inside i (with_record i.kept.records (first_record i.next_number key hash update)) (Upsert i.next_number 1 update.weight hash) j) { next_number = i.next_number + 1 } → IsEngine eq read l j.kept (with_inner s j)
   whole-inserted laws enabled absent is step =
       let updating : X → K → V → ℕ → Option ℕ → Option ℕ = λ _ _ _ _ _. None in
       let new : Record K V = new_record created updating s key hash update.value update.now update.weight in

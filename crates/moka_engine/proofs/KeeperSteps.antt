@@ -15,7 +15,7 @@ use Rattle.moka_parts.specs.Surroundings.{Leads}
 use Rattle.moka_laws.proofs.Kept.{kept_by_run}
 use Rattle.moka_laws.proofs.StepsKeep.{valid_with}
 use Rattle.moka_store.specs.Store.{Kept}
-use Rattle.moka_engine.specs.BaseCache.{IsWhole}
+use Rattle.moka_engine.specs.BaseCache.{IsEngine}
 use Rattle.moka_engine.specs.Makes.{EngineRuns, Takes}
 use Rattle.moka_inner.specs.Interior.{Interior}
 use Rattle.moka_engine.proofs.EngineSteps.{with_inner, cache_with, order_and_hasher, cache_changed}
@@ -58,10 +58,10 @@ module _ {K V S X L P W C : Type 0} (says : P → K → V → Bool → Type 0) (
       ran.4 ∙ ap (λ (x : Keeper). record x { housekeeping = after_run_due h.housekeeping h.listening now ran.1 }) kept ∙ here
 
   -- what always holds of the cache that has run holds with its housekeeper
-  pub keeper_keeps : {left : Engine K V S X L P W} → left ≡ mid → {eq : K → K → Bool} {l : Option L} {kept : Kept K V S} → IsWhole eq read l kept left.state → IsWhole eq read l kept (with_keeper left.state k)
+  pub keeper_keeps : {left : Engine K V S X L P W} → left ≡ mid → {eq : K → K → Bool} {l : Option L} {kept : Kept K V S} → IsEngine eq read l kept left.state → IsEngine eq read l kept (with_keeper left.state k)
   keeper_keeps {left} is {eq} {l} {kept} holds =
       let s = left.state in
-      subst (IsWhole eq read l kept) (sym (keeper_changed s k (keeper_after is))) (record {
+      subst (IsEngine eq read l kept) (sym (keeper_changed s k (keeper_after is))) (record {
         cache = record {
           valid = valid_with eq s s.reads s.invalid_before s.predicates k.housekeeping holds.cache.valid;
           served = record { unsupported = holds.cache.served.unsupported; unexpiring = holds.cache.served.unexpiring };

@@ -13,9 +13,9 @@ use Rattle.moka_laws.proofs.CallsKeep.{found_enabled}
 use Rattle.moka_store.specs.declared.store.Handle.{Handle}
 use Rattle.moka_store.specs.Store.{Kept}
 use Rattle.moka_inner.specs.Interior.{Interior}
-use Rattle.moka_engine.specs.BaseCache.{IsWhole}
+use Rattle.moka_engine.specs.BaseCache.{IsEngine}
 use Rattle.moka_lookups.specs.Expirations.{expirations_of}
-use Rattle.moka_lookups.specs.Looks.{Finds, IsFound}
+use Rattle.moka_lookups.specs.Gets.{Finds, IsFound}
 use Rattle.moka_engine.proofs.EngineSteps.{with_inner, cache_with, order_and_hasher, befalls-inside, key-inside}
 use Rattle.moka_laws.proofs.Quiet.{befalls-nothing}
 use Rattle.moka_engine.proofs.GetSteps.{IsNoted, record_read}
@@ -38,7 +38,7 @@ module _ {K V S X L P W : Type 0} (says : P → K → V → Bool → Type 0) (re
       step true disabled = rw disabled (refl, refl)
       step false enabled = rw enabled (at (record_of_key eq old.state.records key) refl)
 
-  module _ {l : Option L} {handle : Handle} {r : Record K V} (i : Interior K V S) (h : IsWhole eq read l i.kept old.state)
+  module _ {l : Option L} {handle : Handle} {r : Record K V} (i : Interior K V S) (h : IsEngine eq read l i.kept old.state)
       (at : IsFound i.kept (expirations_of old.state.settings) old.state.invalid_before says old.state.predicates (record_of_key eq i.kept.records key) ignored moment.0 handle r) (held : cache_with old i ≡ old) where
     inside : with_inner old.state i ≡ old.state
     inside = ap (λ (c : Engine K V S X L P W). c.state) held

@@ -8,13 +8,13 @@ use Rattle.moka_parts.specs.Calls.{handing_out}
 use Rattle.moka_parts.specs.State.{State}
 use Rattle.moka_laws.proofs.CallsKeep.{removal_valid}
 use Rattle.moka_inner.specs.Interior.{Interior, handing_out_inside}
-use Rattle.moka_engine.specs.BaseCache.{IsStocked, IsWhole}
+use Rattle.moka_engine.specs.BaseCache.{IsStocked, IsEngine}
 use Rattle.moka_engine.proofs.EngineSteps.{with_inner, unexpiring-removed, cache-inner, number-inside, own-inside}
 use Rattle.moka_engine.proofs.Stocked.{stocked-removed}
 
 -- the record at this number was taken out
-pub whole-removed : {K V X L P W S : Type 0} {eq : K → K → Bool} {read : X → K → V → ℕ → Option ℕ → ℕ → Option ℕ} {l : Option L} {s : State K V X P W} (laws : IsEquivalence eq) (i j : Interior K V S) → IsWhole eq read l i.kept s → with_inner s i ≡ s → (n : ℕ) (r : Record K V) → get i.kept.records n ≡ Some r
-    → j ≡ handing_out_inside i (remove i.kept.records n) (Removal n (r.generation + 1)) j → IsWhole eq read l j.kept (with_inner s j)
+pub whole-removed : {K V X L P W S : Type 0} {eq : K → K → Bool} {read : X → K → V → ℕ → Option ℕ → ℕ → Option ℕ} {l : Option L} {s : State K V X P W} (laws : IsEquivalence eq) (i j : Interior K V S) → IsEngine eq read l i.kept s → with_inner s i ≡ s → (n : ℕ) (r : Record K V) → get i.kept.records n ≡ Some r
+    → j ≡ handing_out_inside i (remove i.kept.records n) (Removal n (r.generation + 1)) j → IsEngine eq read l j.kept (with_inner s j)
 whole-removed {K} {V} {X} {L} {P} {W} {S} {eq} {read} {l} {s} laws i j h inside n r there step =
     let number = (number-inside h.cache i inside n r there).0 in
     let own = own-inside h.cache i inside laws n r there in

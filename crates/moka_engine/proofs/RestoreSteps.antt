@@ -19,7 +19,7 @@ use Rattle.moka_laws.proofs.Consistent.{renew_kept}
 use Rattle.moka_records.proofs.Maps.{same_or_apart, get_inserted, get_past_insert}
 use Rattle.moka_types.specs.declared.restores.Restored.{Restored}
 use Rattle.moka_types.specs.declared.restores.RestoreRefused.{RestoreRefused}
-use Rattle.moka_engine.specs.BaseCache.{IsStocked, IsWhole}
+use Rattle.moka_engine.specs.BaseCache.{IsStocked, IsEngine}
 use Rattle.moka_parts.specs.Restores.{HasRestoreError, RestoreStep, is_unsupported, restore_error, restored_record, restored}
 use Rattle.moka_engine.proofs.InsertSteps.{has_error, not_at_least, refusal}
 use Rattle.moka_engine.proofs.Stocked.{stocked-inserted}
@@ -62,9 +62,9 @@ lasts None x supported none = refl
 lasts (Some e) x supported none = (let impossible : true ≡ false = rw none at supported in absurd (true≢false impossible))
 
 -- what always holds of a cache after an entry was put back, once room was made
-pub whole-restored : {K V X L P W S : Type 0} {eq : K → K → Bool} {read : X → K → V → ℕ → Option ℕ → ℕ → Option ℕ} {l : Option L} {s : State K V X P W} (laws : IsEquivalence eq) (before i j : Interior K V S) → IsWhole eq read l before.kept s → with_inner s before ≡ s → without_room i ≡ without_room before →
+pub whole-restored : {K V X L P W S : Type 0} {eq : K → K → Bool} {read : X → K → V → ℕ → Option ℕ → ℕ → Option ℕ} {l : Option L} {s : State K V X P W} (laws : IsEquivalence eq) (before i j : Interior K V S) → IsEngine eq read l before.kept s → with_inner s before ≡ s → without_room i ≡ without_room before →
     is_disabled s.capacity ≡ false → (item : Restored K V) (hash w : ℕ) → record_of_key eq before.kept.records item.key ≡ None → is_unsupported s item ≡ false
-    → j ≡ record (handing_out_inside i (with_record i.kept.records (record (first_record i.next_number item.key hash (record { value = item.value; now = item.last_modified; expires = item.expires; weight = w })) { read = item.last_accessed })) (Upsert i.next_number 1 w hash) j) { next_number = i.next_number + 1 } → IsWhole eq read l j.kept (with_inner s j)
+    → j ≡ record (handing_out_inside i (with_record i.kept.records (record (first_record i.next_number item.key hash (record { value = item.value; now = item.last_modified; expires = item.expires; weight = w })) { read = item.last_accessed })) (Upsert i.next_number 1 w hash) j) { next_number = i.next_number + 1 } → IsEngine eq read l j.kept (with_inner s j)
 whole-restored {K} {V} {X} {L} {P} {W} {S} {eq} {read} {l} {s} laws before i j h inside_before rooms enabled item hash w absent supported step =
     let inside = inside-roomier s before i inside_before rooms in
     let new : Record K V = record (first_record i.next_number item.key hash (record { value = item.value; now = item.last_modified; expires = item.expires; weight = w })) { read = item.last_accessed } in

@@ -24,13 +24,13 @@ use Rattle.moka_maintenance.specs.declared.sweep.Tests.{Tests}
 use Rattle.moka_maintenance.specs.Steps.{contents_with, stock_in}
 use Rattle.moka_maintenance.specs.Timers.{AreOnTime, HasNoneDue, KeepsTimers}
 use Rattle.moka_maintenance.proofs.Timing.{keeps-on, lasts-timed, still-timed}
-use Rattle.moka_maintenance.specs.Sweeps.{tests_in}
-use Rattle.moka_maintenance.specs.Queues.{ArePrepared}
+use Rattle.moka_maintenance.specs.Sweep.{tests_in}
+use Rattle.moka_maintenance.specs.Admission.{ArePrepared}
 use Rattle.moka_maintenance.specs.Passes.{IsRan}
 use Rattle.moka_maintenance.proofs.Scanned.{nothing_kept}
 use Rattle.moka_maintenance.proofs.Promises.{IsSimple, run_promised, queues_leave_lasting, run_keeps_listening, run_leaves_lasting, run_leaves_valid, run_leaves_exact}
 use Rattle.moka_inner.specs.Interior.{Interior}
-use Rattle.moka_engine.specs.BaseCache.{IsCache, IsWhole}
+use Rattle.moka_engine.specs.BaseCache.{IsCache, IsEngine}
 use Rattle.moka_engine.specs.Makes.{Takes}
 use Rattle.moka_engine.proofs.EngineSteps.{with_inner, cache_with}
 use Rattle.moka_engine.proofs.Stocked.{stocked-on}
@@ -38,7 +38,7 @@ use Rattle.moka_engine.proofs.Stocked.{stocked-on}
 -- ---- a cache that is not disabled: its inner part at first, with its queues applied, and after the passes
 
 module _ {K V X L P W C S : Type 0} {tells : L → K → V → RemovalCause → L → Type 0} {reads : C → Instant → C → Type 0} {eq : K → K → Bool} {read : X → K → V → ℕ → Option ℕ → ℕ → Option ℕ} {old now : Engine K V S X L P W} {m n : Option L}
-    (is : old ≡ now) (i a j : Interior K V S) (held : cache_with old i ≡ old) (h : IsWhole eq read old.listener i.kept old.state) (enabled_now : is_disabled now.state.capacity ≡ false)
+    (is : old ≡ now) (i a j : Interior K V S) (held : cache_with old i ≡ old) (h : IsEngine eq read old.listener i.kept old.state) (enabled_now : is_disabled now.state.capacity ≡ false)
     {has_weigher : Bool} (weighs : has_weigher ≡ is_some old.state.settings.weigher) (applied_with : ArePrepared tells old.state.capacity old.state.settings.policy i.kept.ordered has_weigher (after_reads (contents_with i.sketch i.kept) i.reads) (contents_with a.sketch a.kept) i.kept.written a.kept.written i.writes old.listener m)
     (applied_rest : a ≡ record i { kept = a.kept; sketch = a.sketch; writes = []; reads = []; operation_room = a.operation_room }) (kept_first : KeepsTimers i.kept a.kept) (kept_then : KeepsTimers a.kept j.kept)
     {q : Tests} (terms : Terms) (by_state : tests_in q ≡ tests_of old.state terms.now) {limit : Option ℕ} (limited : limit ≡ (if old.state.settings.listening then terms.limit else None))
@@ -81,7 +81,7 @@ module _ {K V X L P W C S : Type 0} {tells : L → K → V → RemovalCause → 
   keeps = keeps-on i.kept a.kept j.kept kept_first kept_then
 
   -- what always holds of the cache holds again
-  pub run_keeps_whole : IsWhole eq read n j.kept t
+  pub run_keeps_whole : IsEngine eq read n j.kept t
   run_keeps_whole = record {
     cache = subst (IsCache eq n) (sym ends) (record {
       valid = run_leaves_valid s simple terms by_state h.store.ordered refl applied limited refl sketched ran eq cache.valid;

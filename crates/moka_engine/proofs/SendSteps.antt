@@ -10,7 +10,7 @@ use Rattle.moka_parts.specs.Runs.{Engine, Befalls}
 use Rattle.moka_parts.specs.State.{State}
 use Rattle.moka_laws.proofs.StepsKeep.{sent_valid}
 use Rattle.moka_inner.specs.Interior.{Interior}
-use Rattle.moka_engine.specs.BaseCache.{IsCache, IsStocked, IsWhole}
+use Rattle.moka_engine.specs.BaseCache.{IsCache, IsStocked, IsEngine}
 use Rattle.moka_engine.proofs.EngineSteps.{with_inner, cache_with, order_and_hasher, befalls-inside, cache-inner}
 
 module _ {K V S : Type 0} (i j : Interior K V S) (ticket : ℕ) where
@@ -26,7 +26,7 @@ module _ {K V S : Type 0} (i j : Interior K V S) (ticket : ℕ) where
   send-keeps (Err e) sent = ap (λ (x : Interior K V S). x.kept) sent.1
 
   -- what always holds of the cache
-  pub whole-sent : {X L P W : Type 0} {eq : K → K → Bool} {read : X → K → V → ℕ → Option ℕ → ℕ → Option ℕ} {l : Option L} {s : State K V X P W} → IsWhole eq read l i.kept s → with_inner s i ≡ s → (a : Result (Unit {0}) SendError) → Sends a → IsWhole eq read l j.kept (with_inner s j)
+  pub whole-sent : {X L P W : Type 0} {eq : K → K → Bool} {read : X → K → V → ℕ → Option ℕ → ℕ → Option ℕ} {l : Option L} {s : State K V X P W} → IsEngine eq read l i.kept s → with_inner s i ≡ s → (a : Result (Unit {0}) SendError) → Sends a → IsEngine eq read l j.kept (with_inner s j)
   whole-sent {X} {L} {P} {W} {eq} {read} {l} {s} h inside a sent = record { cache = cache a sent; store = subst (IsStocked read s.settings) (sym (send-keeps a sent)) h.store }
     where
       cache : (a : Result (Unit {0}) SendError) → Sends a → IsCache eq l (with_inner s j)

@@ -83,7 +83,7 @@ pub record IsCache {K V X L P W : Type 0} (eq : K → K → Bool) (listener : Op
   pub listens : s.settings.listening ≡ is_some listener
 
 -- the cache and its store
-pub record IsWhole {K V X L P W S : Type 0} (eq : K → K → Bool) (read : X → K → V → ℕ → Option ℕ → ℕ → Option ℕ)
+pub record IsEngine {K V X L P W S : Type 0} (eq : K → K → Bool) (read : X → K → V → ℕ → Option ℕ → ℕ → Option ℕ)
     (listener : Option L) (kept : Kept K V S) (s : State K V X P W) : Type 0 where
   pub cache : IsCache eq listener s
   pub store : IsStocked read s.settings kept

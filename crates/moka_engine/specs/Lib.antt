@@ -4,7 +4,7 @@ pub mod Looks
 pub mod Makes
 pub mod parts
 pub use Rattle.moka_lookups.specs.Sights
-pub use Rattle.moka_lookups.specs.Snapshots
+pub use Rattle.moka_lookups.specs.Snapshot
 pub use Rattle.moka_parts.specs.Restores
 pub use Rattle.moka_records.specs.Time
 pub use Rattle.moka_types.specs.Policy

@@ -8,8 +8,8 @@ use Rattle.moka_parts.specs.Maintenance.{Terms, Course}
 use Rattle.moka_parts.specs.Notices.{Notice}
 use Rattle.moka_records.specs.Records.{Records}
 use Rattle.moka_parts.specs.State.{State, Events, is_disabled}
-use Rattle.moka_lookups.specs.Looks.{ClonesSucceed}
-pub use Rattle.moka_lookups.specs.Looks.{value_of}
+use Rattle.moka_lookups.specs.Gets.{ClonesSucceed}
+pub use Rattle.moka_lookups.specs.Gets.{value_of}
 
 -- what a look-up that is recorded answers, and what it does, if the key has the record sought: in a disabled cache
 -- nothing, and else what a get does whose test answered so

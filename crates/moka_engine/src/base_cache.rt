@@ -116,7 +116,7 @@ impl<K: Eq + Hash, V, S: BuildHasher, X: Expiry<K, V>, L, P, W> Model
     ghost use Rattle.std.specs.FinMap as finite;
     ghost use Rattle.std.specs.String.{string_bytes};
     ghost use Rattle.moka_parts.specs.Runs.{Engine};
-    ghost use Rattle.moka_engine.specs.BaseCache.{IsWhole, settings_of, state_of};
+    ghost use Rattle.moka_engine.specs.BaseCache.{IsEngine, settings_of, state_of};
 
     ghost Value = { Engine K V S X L P W };
 
@@ -133,7 +133,7 @@ impl<K: Eq + Hash, V, S: BuildHasher, X: Expiry<K, V>, L, P, W> Model
       room = c.inner.kept.room;
     } };
 
-    ghost invariant = { λ c. IsWhole K.eq X.read c.notifier c.inner.kept
+    ghost invariant = { λ c. IsEngine K.eq X.read c.notifier c.inner.kept
         (state_of c.inner c.valid_after c.invalidator c.entry_count c.weighted_size c.housekeeper c.max_capacity
         (settings_of c.eviction_policy c.expiration_policy c.weigher c.invalidator_enabled c.housekeeper)) };
 }

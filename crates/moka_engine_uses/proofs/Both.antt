@@ -19,7 +19,7 @@ use Rattle.moka_engine.specs.Visibility.{has_lapsed}
 use Rattle.moka_engine.proofs.Lookup.{record_of_key_empty, record_of_key_found}
 use Rattle.moka_engine.proofs.Maps.{AreApart, same_or_apart, get_inserted, get_past_insert, get_removed, get_past_remove, nothing_at}
 use Rattle.moka_engine.proofs.Values.{empty_map, len_removed, values-empty}
-use Rattle.moka_cache.specs.Saved.{IsRoomyFor, KeepsUnexpired}
+use Rattle.moka_cache.specs.Saves.{IsRoomyFor, KeepsUnexpired}
 use Rattle.moka_cache.proofs.Keeping.{listed_run_keeps}
 use Rattle.moka_cache.proofs.Lasting.{listed_run_lasts}
 use Rattle.moka_cache.proofs.Roomy.{weighs_less}

@@ -17,7 +17,7 @@ use Rattle.moka_engine.specs.Records.{counted_of, numbers_of}
 use Rattle.moka_engine.specs.Settling.{IsWaiting, number_of}
 use Rattle.moka_engine.specs.State.{State, Events, is_disabled}
 use Rattle.moka_engine.proofs.Maps.{get_inserted, nothing_at}
-use Rattle.moka_cache.specs.Saved.{AreAsWeighed, HasRoomFor}
+use Rattle.moka_cache.specs.Saves.{AreAsWeighed, HasRoomFor}
 use Rattle.moka_engine_uses.proofs.Both.{AreBoth, weight_of_both}
 
 -- no number stands twice in an empty list

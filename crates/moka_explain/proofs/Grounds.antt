@@ -24,7 +24,7 @@ use Rattle.moka_parts.specs.Writes.{Fate, Ignored, Overtaken, Counted, Admitted,
 use Rattle.moka_records.proofs.Maps.{same_by_test, same_or_apart, apart_below, get_inserted, get_past_insert, get_past_remove}
 use Rattle.moka_laws.proofs.RunKeeps.{reads_keep}
 use Rattle.moka_laws.proofs.Scanned.{not_one_covers}
-use Rattle.moka_explain.specs.Grounds.{evicts, is_heavy, is_refused, taken_by_write, taken_by_writes, taken_in_run, HasGround}
+use Rattle.moka_explain.specs.Grounds.{evicts, is_heavy, is_refused, taken_by_write, taken_by_writes, taken_in_run, HasGroundForRoom}
 use Rattle.moka_explain.proofs.Room.{same_at, victims, by_steps}
 
 module _ {K V : Type 0} where
@@ -223,7 +223,7 @@ module _ {K V X P W : Type 0} (says : P → K → V → Bool → Type 0) (eq : K
       go (Upsert k g w h) is = λ same last. (tracked.carried g w h (inr (t.ticket, subst (λ (o : Operation). Contains s.writes (record { ticket = t.ticket; operation = o })) (is ∙ ap (λ m. Upsert m g w h) (sym same)) queued))).1 last
 
   -- the ground on which it leaves, and its notice among those of the run
-  pub leaves_on_ground : (ch : Freedom) → AreFree says s now ch → (n : ℕ) (r : Record K V) → get s.records n ≡ Some r → IsVisible says s r now → get (at_end s ch).records n ≡ None → Contains (left_in_run s ch) (leaves_for_size r) × HasGround s ch r
+  pub leaves_on_ground : (ch : Freedom) → AreFree says s now ch → (n : ℕ) (r : Record K V) → get s.records n ≡ Some r → IsVisible says s r now → get (at_end s ch).records n ≡ None → Contains (left_in_run s ch) (leaves_for_size r) × HasGroundForRoom s ch r
   leaves_on_ground ch free n r there visible gone =
       let found : get c.records n ≡ Some r = ap (λ (m : Records K V). get m n) (reads_keep (contents s) s.reads) ∙ there in
       elim (by_writes s.capacity s.settings.policy c s.writes ch.moves n r found (weighs n r there)) [
@@ -246,7 +246,7 @@ module _ {K V X P W : Type 0} (says : P → K → V → Bool → Type 0) (eq : K
       of_run : (by : Fate → Bool) → Contains (taken_in_run s ch by) (leaves_for_size r) → Contains (left_in_run s ch) (leaves_for_size r)
       of_run by taken = Contains-append_left by_all (left_by_choices mid ch.steps) (leaves_for_size r) (writes_take by s.capacity s.settings.policy c s.writes ch.moves (leaves_for_size r) taken)
 
-      on : Left s.capacity s.settings.policy (taken_in_run s ch evicts) (taken_in_run s ch is_heavy) (taken_in_run s ch is_refused) r → Contains (left_in_run s ch) (leaves_for_size r) × HasGround s ch r
+      on : Left s.capacity s.settings.policy (taken_in_run s ch evicts) (taken_in_run s ch is_heavy) (taken_in_run s ch is_refused) r → Contains (left_in_run s ch) (leaves_for_size r) × HasGroundForRoom s ch r
       on (inl evicted) = (of_run evicts evicted, inl (Contains-append_left (taken_in_run s ch evicts) (left_by_choices mid ch.steps) (leaves_for_size r) evicted))
       on (inr (inl (new, heavy, taken))) = (of_run is_heavy taken, inr (inl (apart_below r.applied r.generation new, heavy, taken)))
       on (inr (inr (new, fits, is, taken))) = (of_run is_refused taken, inr (inr (apart_below r.applied r.generation new, fits, is, taken)))

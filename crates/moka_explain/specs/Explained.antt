@@ -19,7 +19,7 @@ use Rattle.moka_explain.specs.declared.explain.Queued.{Queued}
 use Rattle.moka_explain.specs.declared.explain.Fates.{Fates}
 use Rattle.moka_explain.specs.declared.explain.Answer.{Answer}
 use Rattle.moka_explain.specs.declared.explain.Answer.TheVariants as answer
-use Rattle.moka_explain.specs.Grounds.{HasGround}
+use Rattle.moka_explain.specs.Grounds.{HasGroundForRoom}
 use Rattle.moka_explain.specs.Looks.{IsLook}
 
 -- what is worth asking about a call; if runs start by themselves, a get may make one
@@ -72,7 +72,7 @@ IsAnswer q s t a = ⊥
 abbrev pub LeavesForRoom : {K V X P W : Type 0} → (P → K → V → Bool → Type 0) → State K V X P W → State K V X P W → ℕ →
     Record K V → Type 0
 LeavesForRoom says s t now r = (ch : Freedom) × AreFree says s now ch × (t.records ≡ (at_end s ch).records)
-    × Contains (left_in_run s ch) (leaves_for_size r) × HasGround s ch r
+    × Contains (left_in_run s ch) (leaves_for_size r) × HasGroundForRoom s ch r
 
 -- each record that was visible at the moment and is gone left to make room
 abbrev pub MakesRoom : ℕ → ScriptState → ScriptState → Type 0

@@ -67,5 +67,5 @@ module _ {K V X P W : Type 0} (s : State K V X P W) (ch : Freedom) where
       × Contains (taken_in_run is_refused) (leaves_for_size r)
 
   -- the ground on which it leaves to make room
-  abbrev pub HasGround : Record K V → Type 0
-  HasGround r = Contains evicted_in_run (leaves_for_size r) ⊎ (IsTooHeavy r ⊎ IsNotAdmitted r)
+  abbrev pub HasGroundForRoom : Record K V → Type 0
+  HasGroundForRoom r = Contains evicted_in_run (leaves_for_size r) ⊎ (IsTooHeavy r ⊎ IsNotAdmitted r)

@@ -81,7 +81,7 @@ pub record IsGroups (groups : List Group) : Type 0 where
   pub bounded : length groups ≤ 2 ^ 32
 
 -- the places are counted, a group has at most four on average, and no search goes farther than it must
-pub record IsIndex (groups : List Group) (len : ℕ) : Type 0 where
+pub record IsPlaceIndex (groups : List Group) (len : ℕ) : Type 0 where
   pub groups_are : IsGroups groups
   pub counted : len ≡ finite.len (entries_of groups)
   pub fits : len ≤ 4 * length groups

@@ -41,11 +41,11 @@ impl Model for PlaceIndex {
 
     ghost coded = { index_code };
 
-    ghost use Rattle.moka_index.specs.Groups.{entries_of, IsIndex};
+    ghost use Rattle.moka_index.specs.Groups.{entries_of, IsPlaceIndex};
 
     ghost view = { λ a. record { entries = entries_of a.groups.items; room = 4 * length a.groups.items - a.len } };
 
-    ghost invariant = { λ a. IsIndex a.groups.items a.len };
+    ghost invariant = { λ a. IsPlaceIndex a.groups.items a.len };
 }
 
 impl PlaceIndex {

@@ -23,7 +23,7 @@ use Rattle.moka_parts.specs.State.{Contents}
 use Rattle.moka_laws.proofs.RunKeeps.{Keeps, keeps_writes, keeps_choices}
 use Rattle.moka_records.proofs.Values.{len_removed, remove_absent}
 use Rattle.moka_laws.proofs.Waiting.{hands_out, waits_sent}
-use Rattle.moka_structures.specs.Pending.{Pending}
+use Rattle.moka_structures.specs.Outstanding.{Pending}
 use Rattle.moka_store.specs.Store.{Kept}
 use Rattle.moka_store.proofs.Gets.{after_insert, after_remove, get-inserted, get-past_insert, get-past_remove, len-inserted, len-kept, option-cases}
 use Rattle.moka_maintenance.proofs.Popped.{nothing_there}
@@ -31,14 +31,14 @@ use Rattle.moka_maintenance.specs.declared.queued.PlacedWrite.{PlacedWrite}
 use Rattle.moka_maintenance.specs.declared.queued.QueuedWrite.{QueuedWrite}
 use Rattle.moka_maintenance.specs.declared.queued.QueuedRead.{QueuedRead}
 use Rattle.moka_maintenance.specs.Queued.{IsReadAt, handed_of, read_of, writes_of}
-use Rattle.moka_maintenance.specs.Queues.{AreApplied, LeavesNoRowBy}
+use Rattle.moka_maintenance.specs.Admission.{AreApplied, LeavesNoRowBy}
 use Rattle.moka_maintenance.specs.Steps.{Stock, AddsNoPlace, LeavesNoRow, IsStepped, contents_in, contents_with, stock_in}
 use Rattle.moka_inner.specs.Inner.{IsInner, AreLocated, HasUse}
 use Rattle.moka_inner.specs.Interior.{IsLocated, IsReadLocated, operations_of}
 use Rattle.moka_maintenance.proofs.Fewer.{len-fewer}
 use Rattle.moka_maintenance.proofs.Placed.{none_inserted}
 use Rattle.moka_inner.proofs.ValuesLemmas.{get-map_values, map_values-insert, map_values-remove, map_values-found}
-use Rattle.moka_parts.specs.Frequency.{Table}
+use Rattle.moka_parts.specs.Frequency.{SketchTable}
 
 -- ---- where what waits is located
 
@@ -333,7 +333,7 @@ module _ {K V S : Type 0} (kept : Kept K V S) (out left : Pending PlacedWrite) (
 
 module _ {K V L S : Type 0} (tells : L → K → V → RemovalCause → L → Type 0) (kept after : Kept K V S) (out : Pending PlacedWrite) (writes : Buffer QueuedWrite) (reads : Buffer QueuedRead) (t n : ℕ) (h : IsInner kept out writes reads t n) (l m : Option L) where
   -- both queues were applied
-  pub inner-applied : (capacity : Option ℕ) (policy : EvictionPolicy) (sketch : Option Table) (mid : Kept K V S) → mid.records ≡ kept.records → mid.places ≡ kept.places → AreApplied tells capacity policy mid.ordered (contents_with sketch mid) (contents_with sketch after) mid.written after.written (writes_of writes.items) l m
+  pub inner-applied : (capacity : Option ℕ) (policy : EvictionPolicy) (sketch : Option SketchTable) (mid : Kept K V S) → mid.records ≡ kept.records → mid.places ≡ kept.places → AreApplied tells capacity policy mid.ordered (contents_with sketch mid) (contents_with sketch after) mid.written after.written (writes_of writes.items) l m
       → AddsNoPlace mid after → LeavesNoRowBy (writes_of writes.items) mid after → IsInner after out (buffer [] writes.capacity) (buffer [] reads.capacity) t n
   inner-applied capacity policy sketch mid records places applied fewer rows =
       let keeps : Keeps mid.records after.records = subst (λ (c : Contents K V). Keeps mid.records c.records) (sym applied.led) (keeps_writes capacity policy (contents_with sketch mid) (writes_of writes.items) applied.moves) in

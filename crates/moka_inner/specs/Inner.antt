@@ -7,7 +7,7 @@ use Rattle.moka_records.specs.declared.records.Record.{Record}
 use Rattle.moka_records.specs.declared.records.Operation.TheVariants.{Removal}
 use Rattle.moka_parts.specs.Calls.{queue_length}
 use Rattle.moka_parts.specs.Settling.{number_of, IsWaitingIn}
-use Rattle.moka_structures.specs.Pending.{Pending}
+use Rattle.moka_structures.specs.Outstanding.{Pending}
 use Rattle.moka_store.specs.Store.{Kept}
 use Rattle.moka_maintenance.specs.declared.queued.PlacedWrite.{PlacedWrite}
 use Rattle.moka_maintenance.specs.declared.queued.QueuedWrite.{QueuedWrite}

@@ -8,7 +8,7 @@ use Rattle.moka_records.specs.declared.records.ReadOperation.TheVariants.{Hit, M
 use Rattle.moka_records.specs.declared.records.Record.{Record}
 use Rattle.moka_records.specs.declared.records.Ticketed.{Ticketed}
 use Rattle.moka_records.specs.Records.{Records, Operations}
-use Rattle.moka_parts.specs.Frequency.{Table}
+use Rattle.moka_parts.specs.Frequency.{SketchTable}
 use Rattle.moka_table.specs.declared.table.Update.{Update}
 use Rattle.moka_store.specs.Store.{Kept}
 use Rattle.moka_maintenance.specs.declared.queued.PlacedWrite.{PlacedWrite}
@@ -18,7 +18,7 @@ use Rattle.moka_inner.specs.Values.{map_values}
 -- the store, the sketch, the operations that wait, and the numbers that come next
 pub record Interior (K V S : Type 0) : Type 0 where
   pub kept : Kept K V S
-  pub sketch : Option Table
+  pub sketch : Option SketchTable
   pub outstanding : Operations
   pub writes : List Ticketed
   pub reads : List ReadOperation

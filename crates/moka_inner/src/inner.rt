@@ -13,7 +13,7 @@ ghost use Rattle.moka_store.specs.Hashing.{IsIndexHash};
 ghost use Rattle.moka_store.specs.Store.{ChangesRecord, ExpiresAsBefore, IsHandle};
 ghost use Rattle.moka_table.specs.Updates.{updated};
 ghost use Rattle.moka_maintenance.specs.Passes.{IsRan};
-ghost use Rattle.moka_maintenance.specs.Queues.{ArePrepared};
+ghost use Rattle.moka_maintenance.specs.Admission.{ArePrepared};
 ghost use Rattle.moka_maintenance.specs.Steps.{contents_with, stock_in};
 ghost use Rattle.moka_maintenance.specs.Timers.{AreOnTime, HasNoneDue, KeepsTimers};
 ghost use Rattle.moka_inner.specs.Interior.{IsReadLocated, first_record, handing_out_inside, nothing_inside};

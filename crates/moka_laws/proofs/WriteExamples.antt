@@ -3,7 +3,7 @@ use Rattle.std.proofs.Common.{◌≡◌, refl, ℕ, List, [], ◌∷◌, Option,
 use Rattle.std.specs.FinMap.{get, remove, from_sorted, get-from_sorted}
 use Rattle.moka_laws.proofs.Types.{Size, TinyLfu, Lru, Record, Member, Upsert, Records, Contents, Overtaken, Admitted, TooHeavy, Preferred, Refused}
 use Rattle.moka_records.specs.Records.{member}
-use Rattle.moka_parts.specs.Frequency.{Table, table_after}
+use Rattle.moka_parts.specs.Frequency.{SketchTable, table_after}
 use Rattle.moka_parts.specs.Writes.{fate, after_write, left_by_write}
 
 -- a record whose number, key and hash are the same
@@ -29,10 +29,10 @@ third = get-from_sorted nat_cmp listed 3 tt
 fourth : get records 4 ≡ None
 fourth = get-from_sorted nat_cmp listed 4 tt
 
-abbrev full : List Member → Option Table → Contents ℕ ℕ
+abbrev full : List Member → Option SketchTable → Contents ℕ ℕ
 full access sketch = record { records = records; access = access; sketch = sketch }
 
-abbrev seen : List ℕ → Option Table
+abbrev seen : List ℕ → Option SketchTable
 seen hashes = Some (table_after 128 hashes)
 
 -- a tie is refused, since nothing was seen of either: the candidate leaves the map, and that is told

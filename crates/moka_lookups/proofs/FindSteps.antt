@@ -9,7 +9,7 @@ use Rattle.moka_parts.specs.Visibility.{has_lapsed, SomeCovers}
 use Rattle.moka_store.specs.declared.store.Handle.{Handle}
 use Rattle.moka_store.specs.Store.{Kept}
 use Rattle.moka_lookups.specs.Expirations.{expiring_by}
-use Rattle.moka_lookups.specs.Looks.{value_of, Finds, IsFound}
+use Rattle.moka_lookups.specs.Gets.{value_of, Finds, IsFound}
 
 -- a test that always answers no ignores nothing
 pub ignores_nothing : {V I : Type 0} (before after : I) (found : Option V) (ignored : Bool) → IsAskedOnce (λ _ _ a _. a ≡ false) (Some before) found ignored (Some after) → ignored ≡ false

@@ -11,7 +11,7 @@ use Rattle.moka_store.specs.Store.{Kept, IsPlaced, member_after}
 use Rattle.moka_store.specs.declared.store.Handle.{Handle}
 use Rattle.moka_parts.specs.Expiry.{remaining}
 use Rattle.moka_lookups.specs.Expirations.{expiring_by}
-use Rattle.moka_lookups.specs.Snapshots.{Scene, members_from, IsPassed, ArePassed, IsHiddenIn, IsShownIn, FindsNext, ListsNext, StandsIn}
+use Rattle.moka_lookups.specs.Snapshot.{Scene, members_from, IsPassed, ArePassed, IsHiddenIn, IsShownIn, FindsNext, ListsNext, StandsIn}
 
 -- the members from the first one on are all
 pub from_front : (members : List Member) (o : Option ℕ) → o ≡ option_map (λ (a : Member). a.number) (slice_get members 0) → members_from o members ≡ members

@@ -1,5 +1,5 @@
 pub mod Expirations
-pub mod Looks
-pub mod Plans
+pub mod Gets
+pub mod Inserts
 pub mod Sights
-pub mod Snapshots
+pub mod Snapshot

@@ -10,7 +10,7 @@ ghost use Rattle.moka_parts.specs.Visibility.{has_lapsed as lapsed};
 ghost use Rattle.moka_records.specs.declared.records.ReadOperation.TheVariants as read_operation;
 ghost use Rattle.moka_store.specs.Hashing.{IsIndexHash};
 ghost use Rattle.moka_lookups.specs.Expirations.{NoneExpires, expiring_by};
-ghost use Rattle.moka_lookups.specs.Looks.{ClonesSucceed, Finds, HandsFound, Touches, entry_at, value_of};
+ghost use Rattle.moka_lookups.specs.Gets.{ClonesSucceed, Finds, HandsFound, Touches, entry_at, value_of};
 
 use moka_parts::calls::Entry;
 use moka_parts::closures::{NoTest, PredicateFn, ValueTest};

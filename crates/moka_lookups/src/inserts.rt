@@ -6,7 +6,7 @@ ghost use Rattle.moka_parts.specs.Expiry.{expires_at_first, expires_updated};
 ghost use Rattle.moka_records.specs.Records.{record_of_key};
 ghost use Rattle.moka_store.specs.Hashing.{IsIndexHash};
 ghost use Rattle.moka_lookups.specs.Expirations.{expiring_by};
-ghost use Rattle.moka_lookups.specs.Plans.{Plans};
+ghost use Rattle.moka_lookups.specs.Inserts.{Plans};
 
 use crate::causes::cause_of_replacement;
 use crate::gets::Moments;

@@ -1,6 +1,6 @@
 //! The visible entries in the order of access, least recently used first.
 ghost use Rattle.std.specs.Prelude.{◌≡◌, IfSome, option_map};
-ghost use Rattle.moka_lookups.specs.Snapshots.{scene_at, scene_from, FindsNext, StandsIn};
+ghost use Rattle.moka_lookups.specs.Snapshot.{scene_at, scene_from, FindsNext, StandsIn};
 
 use crate::gets::Moments;
 use moka_parts::closures::PredicateFn;
@@ -27,7 +27,7 @@ impl<'a, K: Eq + Hash, V, S: BuildHasher, X, P> Model for Snapshot<'a, K, V, S, 
     ghost use Rattle.std.specs.Prelude.{IfSome};
     ghost use Rattle.std.specs.Coded.{codes, coded_ℕ};
     ghost use Rattle.std.specs.FinMap as finite;
-    ghost use Rattle.moka_lookups.specs.Snapshots.{Scene, scene_at, StandsIn};
+    ghost use Rattle.moka_lookups.specs.Snapshot.{Scene, scene_at, StandsIn};
 
     ghost Value = { Scene K V X P };
 
@@ -82,7 +82,7 @@ impl<'a, K: Eq + Hash, V, S: BuildHasher, X, P: PredicateFn<K, V>> Iterator
     ghost use Rattle.std.specs.Prelude.{length, option_map};
     ghost use Rattle.std.specs.Duration.{as_nanos};
     ghost use Rattle.std.specs.Iterator.{at_most};
-    ghost use Rattle.moka_lookups.specs.Snapshots.{ListsNext};
+    ghost use Rattle.moka_lookups.specs.Snapshot.{ListsNext};
 
     type Item = SnapshotEntry<'a, K, V>;
 

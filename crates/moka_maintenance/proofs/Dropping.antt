@@ -8,7 +8,7 @@ use Rattle.moka_parts.specs.Bounds.{removed_by}
 use Rattle.moka_parts.specs.Order.{written_after_choice, written_after_choices}
 use Rattle.moka_parts.specs.Grounds.{AreDrops}
 use Rattle.moka_laws.proofs.OneMore.{AreJustified_push}
-use Rattle.moka_maintenance.specs.Scanning.{CoversSome, AllDropped}
+use Rattle.moka_maintenance.specs.Scan.{CoversSome, AllDropped}
 use Rattle.std.proofs.lemmas.Bool.{cases_eq}
 use Rattle.std.proofs.lemmas.Option.{slice_get-get_or}
 

@@ -17,7 +17,7 @@ use Rattle.moka_store.specs.Store.{Kept, with_timer}
 use Rattle.moka_store.proofs.Gets.{get-past_remove, get-removed}
 use Rattle.moka_maintenance.specs.declared.sweep.Tests.{Tests}
 use Rattle.moka_maintenance.specs.Steps.{Stock, Told, after_step, MayLeave}
-use Rattle.moka_maintenance.specs.Sweeps.{MayExpire, ExpiresDue}
+use Rattle.moka_maintenance.specs.Sweep.{MayExpire, ExpiresDue}
 use Rattle.moka_maintenance.specs.Upkeep.{Upkeep, IsReset}
 use Rattle.moka_maintenance.proofs.Stepped.{removed-on, stepped-none, stepped-one, stepped-on, shorter}
 use Rattle.moka_maintenance.proofs.Timing.{timer-set}

@@ -17,7 +17,7 @@ use Rattle.moka_parts.specs.Writes.{AreMoves, Fate, Ignored, Overtaken, Counted,
 use Rattle.moka_parts.specs.Maintenance.{Removes, after_choice}
 use Rattle.moka_parts.specs.Order.{written_after_fate}
 use Rattle.moka_records.proofs.AccessList.{absent_taken_out, counted-all_to_back}
-use Rattle.moka_parts.specs.Frequency.{Table}
+use Rattle.moka_parts.specs.Frequency.{SketchTable}
 use Rattle.moka_store.specs.Store.{Kept}
 use Rattle.moka_store.proofs.Gets.{none_by_test, some_is}
 use Rattle.moka_store.proofs.Members.{absent_to_back}
@@ -25,9 +25,9 @@ use Rattle.moka_maintenance.specs.declared.admission.PlacedUpsert.{PlacedUpsert}
 use Rattle.moka_maintenance.specs.declared.bounds.Bounds.{Bounds}
 use Rattle.moka_maintenance.specs.Handles.{IsOutside}
 use Rattle.moka_maintenance.specs.Steps.{Told, contents_in, contents_with}
-use Rattle.moka_maintenance.specs.Queues.{AppliesUpsert, IsApplied, IsCompared}
+use Rattle.moka_maintenance.specs.Admission.{AppliesUpsert, IsApplied, IsCompared}
 use Rattle.moka_maintenance.specs.Upkeep.{Upkeep}
-use Rattle.moka_maintenance.specs.Chosen.{Chooses}
+use Rattle.moka_maintenance.specs.Choice.{Chooses}
 use Rattle.moka_maintenance.proofs.Told.{told-none}
 use Rattle.moka_maintenance.proofs.Upkeep.{untimed-moved}
 
@@ -127,13 +127,13 @@ module _ {K V L : Type 0} (tells : L → K → V → RemovalCause → L → Type
     applied-newcomer new apart moved f is = by_fate moved f (fate_newer new ∙ ap newer apart ∙ is)
 
 -- an upsert, which is no removal
-pub applies-upsert : {K V S L : Type 0} (tells : L → K → V → RemovalCause → L → Type 0) (bounds : Bounds) (sketch : Option Table) (old new : Kept K V S) (u : PlacedUpsert) (l m : Option L)
+pub applies-upsert : {K V S L : Type 0} (tells : L → K → V → RemovalCause → L → Type 0) (bounds : Bounds) (sketch : Option SketchTable) (old new : Kept K V S) (u : PlacedUpsert) (l m : Option L)
     → IsApplied tells bounds.capacity bounds.policy old.ordered (contents_with sketch old) (contents_with sketch new) old.written new.written (Upsert u.handle.number u.generation u.weight u.hash) l m
     → Upkeep old new → AppliesUpsert tells bounds sketch old new u l m
 applies-upsert tells bounds sketch old new u l m applied upkeep = record { applied = applied; upkeep = upkeep; rows = λ n p at gone. (upkeep.rows n p at gone, λ generation is. cc) }
 
 -- an upsert of a record outside the access list, in a store
-module _ {K V S L : Type 0} (tells : L → K → V → RemovalCause → L → Type 0) (bounds : Bounds) (sketch : Option Table) (old new : Kept K V S) (u : PlacedUpsert) (l m : Option L) (outside : IsOutside old u.handle) (newer : (r : Record K V) → get old.records u.handle.number ≡ Some r → r.applied < u.generation) (upkeep : Upkeep old new) where
+module _ {K V S L : Type 0} (tells : L → K → V → RemovalCause → L → Type 0) (bounds : Bounds) (sketch : Option SketchTable) (old new : Kept K V S) (u : PlacedUpsert) (l m : Option L) (outside : IsOutside old u.handle) (newer : (r : Record K V) → get old.records u.handle.number ≡ Some r → r.applied < u.generation) (upkeep : Upkeep old new) where
   there : (r : Record K V) × (get old.records u.handle.number ≡ Some r)
   there = some_is (get old.records u.handle.number) outside.handle.stored
 
@@ -155,7 +155,7 @@ module _ {K V S L : Type 0} (tells : L → K → V → RemovalCause → L → Ty
   applies-compared is all = (let by = all there.0 there.1 in let victims = victims_for (contents_with sketch old) u.weight in applies by.moved (fate_by_frequency (contents_with sketch old) u.hash victims) is (inr (compared (contents_with sketch old) u.hash victims, by.unsettled)) by.led by.listed by.told)
 
 -- a record has seen an operation, and then its member goes to the back with another weight
-pub entered-recounted : {K V S : Type 0} (old mid new : Kept K V S) (n generation weight : ℕ) (r : Record K V) → mid ≡ record old { records = insert old.records n (record r { applied = generation }) } → (sketch : Option Table) → contents_with sketch new ≡ contents_with sketch (record mid { access = without_member n mid.access ++ member n weight ∷ [] }) → contents_with sketch new ≡ entered n generation weight r (record (contents_with sketch old) { access = without_member n old.access })
+pub entered-recounted : {K V S : Type 0} (old mid new : Kept K V S) (n generation weight : ℕ) (r : Record K V) → mid ≡ record old { records = insert old.records n (record r { applied = generation }) } → (sketch : Option SketchTable) → contents_with sketch new ≡ contents_with sketch (record mid { access = without_member n mid.access ++ member n weight ∷ [] }) → contents_with sketch new ≡ entered n generation weight r (record (contents_with sketch old) { access = without_member n old.access })
 entered-recounted {K} {V} {S} old mid new n generation weight r seen sketch step = step ∙ ap (λ (m : Kept K V S). contents_with sketch (record m { access = without_member n m.access ++ member n weight ∷ [] })) seen
 
 -- a record that no list has leaves as one that is rejected
@@ -167,10 +167,10 @@ rejected-gone c d number generation r same apart led =
 -- ---- a candidate that was compared enters in its victims' place, or is rejected
 
 -- what the comparison moves keeps its timer and its row
-pub upkeep-chosen : {K V S : Type 0} (sketch : Option Table) (old mid : Kept K V S) (weight hash victims : ℕ) {preferred : Bool} → Chooses (contents_with sketch old) weight hash mid.access victims preferred → mid ≡ record old { access = mid.access } → Upkeep old mid
+pub upkeep-chosen : {K V S : Type 0} (sketch : Option SketchTable) (old mid : Kept K V S) (weight hash victims : ℕ) {preferred : Bool} → Chooses (contents_with sketch old) weight hash mid.access victims preferred → mid ≡ record old { access = mid.access } → Upkeep old mid
 upkeep-chosen sketch old mid weight hash victims chosen rest = (untimed-moved old mid rest (λ k. ap (counted_of k) chosen.order ∙ counted-all_to_back chosen.moved k old.access)).keeps
 
-module _ {K V S : Type 0} (sketch : Option Table) (old mid : Kept K V S) (number generation weight hash victims : ℕ) {preferred : Bool} (chosen : Chooses (contents_with sketch old) weight hash mid.access victims preferred) (rest : mid ≡ record old { access = mid.access }) where
+module _ {K V S : Type 0} (sketch : Option SketchTable) (old mid : Kept K V S) (number generation weight hash victims : ℕ) {preferred : Bool} (chosen : Chooses (contents_with sketch old) weight hash mid.access victims preferred) (rest : mid ≡ record old { access = mid.access }) where
   -- a record outside the access list stays outside
   pub still_apart : counted_of number old.access ≡ None → counted_of number mid.access ≡ None
   still_apart apart = ap (counted_of number) chosen.order ∙ counted-all_to_back chosen.moved number old.access ∙ apart

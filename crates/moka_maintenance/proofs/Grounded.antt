@@ -1,7 +1,7 @@
 -- Steps by their grounds, and their order.
 use Rattle.std.specs.Prelude.{slice_get}
 use Rattle.std.proofs.Common.{◌≡◌, refl, ℕ, zero, suc, ◌+◌, ◌≤◌, Bool, true, false, true≢false, not, ◌&&◌, ◌||◌, List, [], ◌∷◌, ◌++◌, length, Option, Some, None, ◌⊎◌, inl, inr, ap, sym, subst, ◌∙◌, arith, append_assoc, append-nil, if◌then◌else◌}
-use Rattle.moka_parts.specs.Frequency.{Table}
+use Rattle.moka_parts.specs.Frequency.{SketchTable}
 use Rattle.moka_parts.specs.declared.notification.RemovalCause.{RemovalCause}
 use Rattle.moka_parts.specs.declared.notification.RemovalCause.TheVariants.{Expired, Explicit}
 use Rattle.moka_records.specs.declared.records.Record.{Record}
@@ -16,9 +16,9 @@ use Rattle.moka_parts.specs.Grounds.{Ground, ByTimer, ByWrite, ByRead, ByPredica
 use Rattle.moka_maintenance.specs.declared.sweep.Tests.{Tests}
 use Rattle.moka_maintenance.specs.declared.sweep.Sweep.{Sweep}
 use Rattle.moka_maintenance.specs.declared.sweep.Sweep.TheVariants.{Written, Read, Surplus}
-use Rattle.moka_maintenance.specs.Scanning.{MayScan}
+use Rattle.moka_maintenance.specs.Scan.{MayScan}
 use Rattle.moka_maintenance.specs.Steps.{Stock, MayAll, MayRun, after_step, after_steps}
-use Rattle.moka_maintenance.specs.Sweeps.{IsDone, IsNext, MayExpire, MayTurn, ground_of, tests_in}
+use Rattle.moka_maintenance.specs.Sweep.{IsDone, IsNext, MayExpire, MayTurn, ground_of, tests_in}
 use Rattle.moka_maintenance.proofs.Dropping.{choices-append, written-append}
 use Rattle.moka_maintenance.proofs.Seen.{choices_sketched}
 use Rattle.std.proofs.lemmas.Bool.{and_from, or_left, or_right}
@@ -55,7 +55,7 @@ module _ {K V P : Type 0} (q : parts.Tests) (c : Contents K V) (n : ℕ) (r : Re
 
 -- ---- what a step may take by one condition, it may by another that covers as much, whatever sketch the contents have
 
-module _ {K V : Type 0} (Covered Other : Record K V → Type 0) (also : (r : Record K V) → Covered r → Other r) (q : parts.Tests) (sketch : Option Table) where
+module _ {K V : Type 0} (Covered Other : Record K V → Type 0) (also : (r : Record K V) → Covered r → Other r) (q : parts.Tests) (sketch : Option SketchTable) where
   leaves-also : (ground : Ground) (c : Contents K V) (n : ℕ) (r : Record K V) (cause : RemovalCause) → LeavesBy Covered q ground c n r cause → LeavesBy Other q ground (record c { sketch = sketch }) n r cause
   leaves-also ByTimer c n r cause h = h
   leaves-also ByWrite c n r cause h = h

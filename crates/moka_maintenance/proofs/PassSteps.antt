@@ -23,9 +23,9 @@ use Rattle.std.specs.FinMap.{get}
 use Rattle.moka_maintenance.specs.declared.sweep.Tests.{Tests}
 use Rattle.moka_maintenance.specs.declared.sweep.Sweep.{Sweep}
 use Rattle.moka_maintenance.specs.declared.sweep.Sweep.TheVariants.{Written, Read, Surplus}
-use Rattle.moka_maintenance.specs.Scanning.{MayScan, AreDropped, IsScanned}
+use Rattle.moka_maintenance.specs.Scan.{MayScan, AreDropped, IsScanned}
 use Rattle.moka_maintenance.specs.Steps.{Stock, MayLeave, MayRun, MayAll, AreAllMembers, HasNoSettled, HasUnsettled, IsStepped, after_step, after_steps, is_timely, makes_room, stock_in}
-use Rattle.moka_maintenance.specs.Sweeps.{tests_in, ground_of, is_taken, sweeps_reads, sweeps_writes, HasStopped, IsAtRest, IsDone, AreAllTurns, MayTurn, MayExpire, IsSwept, ExpiresDue}
+use Rattle.moka_maintenance.specs.Sweep.{tests_in, ground_of, is_taken, sweeps_reads, sweeps_writes, HasStopped, IsAtRest, IsDone, AreAllTurns, MayTurn, MayExpire, IsSwept, ExpiresDue}
 use Rattle.moka_maintenance.specs.Passes.{IsPass, HasSwept}
 use Rattle.moka_maintenance.proofs.Fronts.{within-not_over}
 use Rattle.moka_maintenance.proofs.Grounded.{Takes, ends-swept, expiry_takes, grounds-on, grounds-one, IsKeptWith, kept-on, scan_takes, take_runs, turn_takes, told_by_tests}

@@ -18,11 +18,11 @@ use Rattle.moka_parts.specs.Grounds.{FollowsGrounds, grounds_of, grounds_of_pass
 use Rattle.moka_parts.specs.Surroundings.{Leads}
 use Rattle.moka_parts.proofs.RunsGoOn.{Leads-append}
 use Rattle.moka_maintenance.specs.declared.sweep.Tests.{Tests}
-use Rattle.moka_maintenance.specs.Scanning.{AreDropped}
+use Rattle.moka_maintenance.specs.Scan.{AreDropped}
 use Rattle.moka_maintenance.specs.Steps.{Stock, MayRun, AreAllMembers, HasUnsettled, IsStepped, after_steps, makes_room}
 use Rattle.moka_maintenance.specs.declared.sweep.Sweep.{Sweep}
 use Rattle.moka_maintenance.specs.declared.sweep.Sweep.TheVariants.{Written, Read, Surplus}
-use Rattle.moka_maintenance.specs.Sweeps.{tests_in, IsAtRest, IsDone}
+use Rattle.moka_maintenance.specs.Sweep.{tests_in, IsAtRest, IsDone}
 use Rattle.moka_maintenance.specs.Passes.{IsPass, IsRan, HasSwept, Starts, Checks}
 use Rattle.moka_maintenance.proofs.Grounded.{grounds-also, grounds-next, grounds-on}
 use Rattle.moka_maintenance.proofs.Scanned.{covers_fewer, covers_none, dropped-later, dropped-none, dropped-on, kept_there, nothing_kept}

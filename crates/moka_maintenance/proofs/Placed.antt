@@ -9,7 +9,7 @@ use Rattle.moka_store.specs.Store.{Kept}
 use Rattle.moka_store.proofs.Gets.{get-inserted, get-past_insert, get-past_remove, after_remove}
 use Rattle.moka_maintenance.specs.Queued.{IsAt}
 use Rattle.moka_maintenance.specs.Steps.{AddsNoPlace, LeavesNoRow}
-use Rattle.moka_maintenance.specs.Queues.{LeavesNoRowAfter}
+use Rattle.moka_maintenance.specs.Admission.{LeavesNoRowAfter}
 
 module _ {X : Type 0} where
   -- what is missing after an insertion was missing before

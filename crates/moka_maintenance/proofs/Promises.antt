@@ -43,8 +43,8 @@ use Rattle.moka_maintenance.specs.declared.sweep.Tests.{Tests}
 use Rattle.moka_maintenance.specs.declared.sweep.Sweep.{Sweep}
 use Rattle.moka_maintenance.specs.declared.sweep.Sweep.TheVariants.{Written, Read, Surplus}
 use Rattle.moka_maintenance.specs.Steps.{Stock, after_steps, MayLeave, MayRun, MayAll, HasUnsettled, Told, makes_room}
-use Rattle.moka_maintenance.specs.Queues.{ArePrepared, AreApplied}
-use Rattle.moka_maintenance.specs.Sweeps.{tests_in, sweeps_writes, IsAtRest, IsDone}
+use Rattle.moka_maintenance.specs.Admission.{ArePrepared, AreApplied}
+use Rattle.moka_maintenance.specs.Sweep.{tests_in, sweeps_writes, IsAtRest, IsDone}
 use Rattle.moka_maintenance.specs.Passes.{IsRan, HasSwept}
 use Rattle.moka_maintenance.proofs.Told.{told_same, told-on}
 use Rattle.moka_maintenance.proofs.Dropping.{choices-append, drops_remove_none, drops_silent, drops_stay, drops_unlisted, gone-append, kept-append, written-append}

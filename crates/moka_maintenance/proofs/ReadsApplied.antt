@@ -4,13 +4,13 @@ use Rattle.std.proofs.lemmas.List.Elements.{Contains-append_cases, Contains-appe
 use Rattle.std.proofs.lemmas.List.{append-nil, append_assoc}
 use Rattle.moka_parts.specs.Reads.{after_read, after_reads}
 use Rattle.moka_parts.specs.State.{Contents}
-use Rattle.moka_parts.specs.Frequency.{Table, counted_once}
+use Rattle.moka_parts.specs.Frequency.{SketchTable, counted_once}
 use Rattle.moka_store.specs.Store.{Kept}
 use Rattle.moka_maintenance.specs.declared.queued.Outcome.{Outcome}
 use Rattle.moka_maintenance.specs.declared.queued.Outcome.TheVariants as O
 use Rattle.moka_maintenance.specs.declared.queued.QueuedRead.{QueuedRead}
 use Rattle.moka_maintenance.specs.Queued.{IsReadAt, IsRenewed, counted_all, read_of, reads_of}
-use Rattle.moka_maintenance.specs.Queues.{AppliesReads}
+use Rattle.moka_maintenance.specs.Admission.{AppliesReads}
 use Rattle.moka_maintenance.specs.Steps.{contents_in}
 use Rattle.moka_maintenance.specs.Timers.{Serves}
 use Rattle.moka_maintenance.proofs.Popped.{first_or_rest, nothing_there}
@@ -24,7 +24,7 @@ counted-off [] = refl
 counted-off (q ∷ qs) = counted-off qs
 
 -- reads and then others
-pub counted-both : (sketch : Option Table) (xs ys : List QueuedRead) → counted_all sketch (xs ++ ys) ≡ counted_all (counted_all sketch xs) ys
+pub counted-both : (sketch : Option SketchTable) (xs ys : List QueuedRead) → counted_all sketch (xs ++ ys) ≡ counted_all (counted_all sketch xs) ys
 counted-both sketch [] ys = refl
 counted-both sketch (x ∷ xs) ys = counted-both (counted_once sketch x.hash) xs ys
 

@@ -15,7 +15,7 @@ use Rattle.moka_laws.proofs.Scanned.{uncovered-append, uncovered-kept, listed_ap
 use Rattle.moka_store.specs.Store.{Kept}
 use Rattle.moka_maintenance.specs.Upkeep.{SetsNoTimer}
 use Rattle.moka_maintenance.proofs.Upkeep.{untimed-on}
-use Rattle.moka_maintenance.specs.Scanning.{from_cursor, before_cursor, round_from, LeavesSome, MayScan, IsWalked, GoesRound, IsRound}
+use Rattle.moka_maintenance.specs.Scan.{from_cursor, before_cursor, round_from, LeavesSome, MayScan, IsWalked, GoesRound, IsRound}
 use Rattle.moka_maintenance.specs.Steps.{Stock, stock_in}
 use Rattle.moka_maintenance.proofs.Stepped.{stepped-on, still_there}
 use Rattle.moka_maintenance.proofs.Walked.{none_looked, settled-append, settled-same, some-append, stands_still}

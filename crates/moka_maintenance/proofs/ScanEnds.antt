@@ -18,7 +18,7 @@ use Rattle.moka_records.proofs.WriteList.{unlisted_all}
 use Rattle.moka_store.specs.Store.{Kept}
 use Rattle.moka_store.proofs.Gets.{get-past_remove}
 use Rattle.moka_store.proofs.Members.{counted-without}
-use Rattle.moka_maintenance.specs.Scanning.{before_cursor, from_cursor, round_from, MayScan, GoesRound}
+use Rattle.moka_maintenance.specs.Scan.{before_cursor, from_cursor, round_from, MayScan, GoesRound}
 use Rattle.moka_maintenance.specs.Steps.{Stock, MayAll, IsStepped, after_step, after_steps, contents_in, stock_in}
 use Rattle.moka_maintenance.proofs.Rounds.{before_and_from}
 use Rattle.moka_maintenance.proofs.Walked.{settled-same}

@@ -15,7 +15,7 @@ use Rattle.moka_records.proofs.Maps.{itself_tested, same_by_test}
 use Rattle.moka_laws.proofs.Scanned.{not_one_covers, uncovered-none}
 use Rattle.moka_store.specs.Store.{Kept}
 use Rattle.moka_maintenance.proofs.Upkeep.{untimed-none}
-use Rattle.moka_maintenance.specs.Scanning.{round_from, MayScan, GoesRound, IsRound, AreDropped, AllDropped, IsScanned}
+use Rattle.moka_maintenance.specs.Scan.{round_from, MayScan, GoesRound, IsRound, AreDropped, AllDropped, IsScanned}
 use Rattle.moka_maintenance.specs.Steps.{Stock, AreAllMembers, HasNoSettled, after_steps, contents_in, stock_in}
 use Rattle.moka_maintenance.proofs.Dropping.{drops_stay, kept-append, both_drop, by_drops}
 use Rattle.moka_maintenance.proofs.Popped.{first_or_rest}

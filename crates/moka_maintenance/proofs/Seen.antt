@@ -1,6 +1,6 @@
 -- Steps of a stock are those of the reference cache, whatever sketch its contents have; the write list goes along.
 use Rattle.std.proofs.Common.{◌≡◌, refl, ℕ, Bool, List, [], ◌∷◌, ◌++◌, ap, sym, ◌∙◌, Option, None}
-use Rattle.moka_parts.specs.Frequency.{Table}
+use Rattle.moka_parts.specs.Frequency.{SketchTable}
 use Rattle.moka_parts.specs.declared.notification.RemovalCause.{RemovalCause}
 use Rattle.moka_parts.specs.declared.notification.RemovalCause.TheVariants.{Expired, Explicit, Replaced, Size}
 use Rattle.moka_parts.specs.declared.records.Registered.{Registered}
@@ -14,7 +14,7 @@ module _ {K V : Type 0} where
   abbrev pub stock_of : Contents K V → List ℕ → Stock K V
   stock_of c ns = record { contents = record c { sketch = None }; written = ns }
 
-  pub choices_sketched : (sketch : Option Table) (c : Contents K V) (xs : List Choice) → after_choices (record c { sketch = sketch }) xs ≡ record (after_choices c xs) { sketch = sketch }
+  pub choices_sketched : (sketch : Option SketchTable) (c : Contents K V) (xs : List Choice) → after_choices (record c { sketch = sketch }) xs ≡ record (after_choices c xs) { sketch = sketch }
   choices_sketched sketch c [] = refl
   choices_sketched sketch c (Removes n cause ∷ xs) = choices_sketched sketch (after_choice c (Removes n cause)) xs
   choices_sketched sketch c (MovesToBack n ∷ xs) = choices_sketched sketch (after_choice c (MovesToBack n)) xs
@@ -28,13 +28,13 @@ module _ {K V : Type 0} where
     pub led-seen : d.sketch ≡ c.sketch → d ≡ after_choices c xs
     led-seen same =
         ap (λ (e : Stock K V). record e.contents { sketch = d.sketch }) (led ∙ steps-seen c ns xs)
-        ∙ ap (λ (t : Option Table). record (after_choices c xs) { sketch = t }) same ∙ sym (choices_sketched c.sketch c xs)
+        ∙ ap (λ (t : Option SketchTable). record (after_choices c xs) { sketch = t }) same ∙ sym (choices_sketched c.sketch c xs)
 
     pub listed-seen : ms ≡ written_after_choices ns xs
     listed-seen = ap (λ (e : Stock K V). e.written) led
 
   -- and the same leaves
-  pub left-seen : (sketch : Option Table) (c : Contents K V) (xs : List Choice) → left_by_choices (record c { sketch = sketch }) xs ≡ left_by_choices c xs
+  pub left-seen : (sketch : Option SketchTable) (c : Contents K V) (xs : List Choice) → left_by_choices (record c { sketch = sketch }) xs ≡ left_by_choices c xs
   left-seen sketch c [] = refl
   left-seen sketch c (Removes n cause ∷ xs) = ap (λ xs. left_by_choice c (Removes n cause) ++ xs) (left-seen sketch (after_choice c (Removes n cause)) xs)
   left-seen sketch c (MovesToBack n ∷ xs) = left-seen sketch (after_choice c (MovesToBack n)) xs

@@ -18,7 +18,7 @@ use Rattle.moka_maintenance.specs.declared.sweep.Sweep.{Sweep}
 use Rattle.moka_maintenance.specs.declared.sweep.Sweep.TheVariants.{Written, Read, Surplus}
 use Rattle.moka_maintenance.specs.declared.sweep.Turn.TheVariants.{Removed, Passed, Ended}
 use Rattle.moka_maintenance.specs.Steps.{Stock, Told, HasUnsettled, HasNoSettled, IsStepped, after_step}
-use Rattle.moka_maintenance.specs.Sweeps.{MayTurn, TakesTurn, IsSwept, IsNext}
+use Rattle.moka_maintenance.specs.Sweep.{MayTurn, TakesTurn, IsSwept, IsNext}
 use Rattle.moka_maintenance.proofs.Told.{told-none}
 use Rattle.moka_maintenance.proofs.Stepped.{removed-on, stepped-none, stepped-one, stepped-on, unsettled-step, unsettled-passed}
 use Rattle.moka_maintenance.proofs.Fronts.{length-to_back, none-to_back, none_settled, front_of, all_unsettled}

@@ -11,7 +11,7 @@ use Rattle.moka_records.specs.Time.{moment_of}
 use Rattle.moka_records.proofs.AccessList.{counted_taken_out}
 use Rattle.moka_store.specs.Store.{Kept, cursor_past, with_timer}
 use Rattle.moka_store.proofs.Gets.{after_remove, get-past_insert, get-past_remove, get-inserted}
-use Rattle.moka_maintenance.specs.Expelled.{without_record}
+use Rattle.moka_maintenance.specs.Expel.{without_record}
 use Rattle.moka_parts.specs.Maintenance.{Choice}
 use Rattle.moka_maintenance.specs.Steps.{Stock, stock_in, after_steps}
 use Rattle.moka_maintenance.specs.Timers.{AreOnTime, KeepsTimers, SetsTimers}

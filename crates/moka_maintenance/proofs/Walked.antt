@@ -19,9 +19,9 @@ use Rattle.moka_records.proofs.WriteList.{listed_taken_out, listed_past_taken_ou
 use Rattle.moka_store.specs.Store.{Kept, number_after, IsPlaced, IsOrdered}
 use Rattle.moka_store.specs.declared.store.Handle.{Handle}
 use Rattle.moka_store.proofs.Gets.{after_remove, get-past_remove}
-use Rattle.moka_maintenance.specs.Scanning.{LeavesSome, settled_numbers, MayScan, LooksAt, IsWalked}
+use Rattle.moka_maintenance.specs.Scan.{LeavesSome, settled_numbers, MayScan, LooksAt, IsWalked}
 use Rattle.moka_maintenance.specs.Steps.{Stock, after_step, after_steps, stock_in, MayAll}
-use Rattle.moka_maintenance.specs.Expelled.{without_record}
+use Rattle.moka_maintenance.specs.Expel.{without_record}
 use Rattle.moka_maintenance.specs.Upkeep.{SetsNoTimer}
 use Rattle.moka_maintenance.proofs.Stepped.{stepped-none, stepped-one, stepped-on, member-past}
 use Rattle.moka_maintenance.proofs.Listed.{after_split, listed_between, without_split}

@@ -20,7 +20,7 @@ use Rattle.moka_laws.proofs.Surplus.{prefix_of_none}
 use Rattle.moka_laws.proofs.Conserved.{still_within}
 use Rattle.moka_store.specs.Store.{member_after}
 use Rattle.moka_parts.specs.Frequency.{frequency}
-use Rattle.moka_maintenance.specs.Chosen.{Chooses}
+use Rattle.moka_maintenance.specs.Choice.{Chooses}
 use Rattle.moka_maintenance.proofs.Fronts.{settled-append, settled-pushed, none_front}
 use Rattle.moka_maintenance.proofs.Popped.{none_first, front_empty, Head, head_of}
 

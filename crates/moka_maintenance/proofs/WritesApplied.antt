@@ -10,12 +10,12 @@ use Rattle.moka_records.specs.declared.records.Ticketed.{Ticketed}
 use Rattle.moka_parts.specs.Order.{written_after_write, written_after_writes}
 use Rattle.moka_parts.specs.State.{Contents}
 use Rattle.moka_parts.specs.Writes.{after_write, after_writes, left_by_write, left_by_writes, AreAllMoves}
-use Rattle.moka_parts.specs.Frequency.{Table}
+use Rattle.moka_parts.specs.Frequency.{SketchTable}
 use Rattle.moka_store.specs.Store.{Kept}
 use Rattle.moka_maintenance.specs.declared.bounds.Bounds.{Bounds}
 use Rattle.moka_maintenance.specs.declared.queued.QueuedWrite.{QueuedWrite}
 use Rattle.moka_maintenance.specs.Queued.{handed_of, writes_of}
-use Rattle.moka_maintenance.specs.Queues.{AppliesWrite, AppliesWrites, AreApplied, IsApplied}
+use Rattle.moka_maintenance.specs.Admission.{AppliesWrite, AppliesWrites, AreApplied, IsApplied}
 use Rattle.moka_maintenance.specs.Steps.{Told, contents_with}
 use Rattle.moka_maintenance.proofs.Popped.{first_or_rest, nothing_there}
 use Rattle.moka_maintenance.proofs.Told.{told-none, told-on}
@@ -74,7 +74,7 @@ module _ {K V L : Type 0} (tells : L → K → V → RemovalCause → L → Type
 
 -- ---- what operations make of a store
 
-module _ {K V S L : Type 0} (tells : L → K → V → RemovalCause → L → Type 0) (bounds : Bounds) (sketch : Option Table) where
+module _ {K V S L : Type 0} (tells : L → K → V → RemovalCause → L → Type 0) (bounds : Bounds) (sketch : Option SketchTable) where
   -- no operation
   pub writes-none : (k : Kept K V S) (l : Option L) → AppliesWrites tells bounds sketch k k [] l l
   writes-none k l = record {

@@ -3,9 +3,9 @@ pub mod Steps
 pub mod Handles
 pub mod Timers
 pub mod Upkeep
-pub mod Queues
-pub mod Sweeps
+pub mod Admission
+pub mod Sweep
 pub mod Passes
-pub mod Chosen
-pub mod Expelled
-pub mod Scanning
+pub mod Choice
+pub mod Expel
+pub mod Scan

@@ -13,9 +13,9 @@ use Rattle.moka_parts.specs.Grounds.{FollowsGrounds, grounds_of, grounds_of_pass
 use Rattle.moka_maintenance.specs.declared.sweep.Tests.{Tests}
 use Rattle.moka_maintenance.specs.declared.sweep.Sweep.{Sweep}
 use Rattle.moka_maintenance.specs.declared.sweep.Sweep.TheVariants.{Written, Read, Surplus}
-use Rattle.moka_maintenance.specs.Scanning.{AreDropped}
+use Rattle.moka_maintenance.specs.Scan.{AreDropped}
 use Rattle.moka_maintenance.specs.Steps.{Stock, MayRun, AreAllMembers, HasNoSettled, HasUnsettled, IsStepped, after_steps, makes_room}
-use Rattle.moka_maintenance.specs.Sweeps.{tests_in, sweeps_writes, IsAtRest, IsDone}
+use Rattle.moka_maintenance.specs.Sweep.{tests_in, sweeps_writes, IsAtRest, IsDone}
 
 module _ {C : Type 0} (reads : C → Instant → C → Type 0) where
   -- the clock is read once if a limit is given

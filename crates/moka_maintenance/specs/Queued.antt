@@ -5,7 +5,7 @@ use Rattle.std.specs.Ordering.{nat_cmp}
 use Rattle.moka_records.specs.declared.records.ReadOperation.{ReadOperation}
 use Rattle.moka_records.specs.declared.records.ReadOperation.TheVariants.{Hit, Miss}
 use Rattle.moka_records.specs.declared.records.Ticketed.{Ticketed}
-use Rattle.moka_parts.specs.Frequency.{Table, counted_once}
+use Rattle.moka_parts.specs.Frequency.{SketchTable, counted_once}
 use Rattle.moka_maintenance.specs.declared.queued.QueuedWrite.{QueuedWrite}
 use Rattle.moka_maintenance.specs.declared.queued.Outcome.{Outcome}
 use Rattle.moka_maintenance.specs.declared.queued.Outcome.TheVariants as O
@@ -34,7 +34,7 @@ abbrev pub reads_of : List QueuedRead → List ReadOperation
 reads_of reads = map read_of reads
 
 -- the sketch once the hash of each of these reads was counted, in order
-abbrev pub counted_all : Option Table → List QueuedRead → Option Table
+abbrev pub counted_all : Option SketchTable → List QueuedRead → Option SketchTable
 counted_all sketch [] = sketch
 counted_all sketch (q ∷ qs) = counted_all (counted_once sketch q.hash) qs
 

@@ -11,7 +11,7 @@ use Rattle.moka_parts.specs.State.{Contents}
 use Rattle.moka_parts.specs.Surroundings.{Heard}
 use Rattle.moka_parts.specs.Maintenance.{Choice, Removes, MovesToBack, Drops, Tests, IsJustified, after_choice, after_choices, left_by_choices}
 use Rattle.moka_parts.specs.Order.{written_after_choice, written_after_choices}
-use Rattle.moka_parts.specs.Frequency.{Table}
+use Rattle.moka_parts.specs.Frequency.{SketchTable}
 use Rattle.moka_store.specs.Store.{Kept}
 
 -- what steps work on: contents, whose sketch they do not see, and the write list
@@ -22,7 +22,7 @@ pub record Stock (K V : Type 0) : Type 0 where
 
 module _ {K V : Type 0} where
   -- what queues work on, in a store with a sketch
-  abbrev pub contents_with : {S : Type 0} → Option Table → Kept K V S → Contents K V
+  abbrev pub contents_with : {S : Type 0} → Option SketchTable → Kept K V S → Contents K V
   contents_with sketch k = record { records = k.records; access = k.access; sketch = sketch }
 
   -- the same without a sketch

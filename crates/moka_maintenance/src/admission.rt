@@ -15,7 +15,7 @@ ghost use Rattle.moka_maintenance.specs.declared.queued.QueuedRead.{QueuedRead};
 ghost use Rattle.moka_maintenance.specs.declared.queued.QueuedWrite.{QueuedWrite};
 ghost use Rattle.moka_maintenance.specs.Queued.{IsAt, IsReadAt, IsRenewed, IsRenewedBy, counted_all, read_of, reads_of, writes_of};
 ghost use Rattle.moka_maintenance.specs.Handles.{IsOutside};
-ghost use Rattle.moka_maintenance.specs.Queues.{AppliesReads, AppliesUpsert, AppliesWrite, AppliesWrites, IsCompared, LeavesNoRowAfter};
+ghost use Rattle.moka_maintenance.specs.Admission.{AppliesReads, AppliesUpsert, AppliesWrite, AppliesWrites, IsCompared, LeavesNoRowAfter};
 ghost use Rattle.moka_maintenance.specs.Steps.{contents_in, contents_with, Told};
 ghost use Rattle.moka_maintenance.specs.Timers.{StandsAtExpiry, Serves};
 ghost use Rattle.moka_maintenance.specs.Upkeep.{Upkeep};

@@ -8,7 +8,7 @@ ghost use Rattle.moka_parts.specs.Candidates.{hash_of};
 ghost use Rattle.moka_records.specs.Records.{counted_of, is_settled, member, without_numbers};
 ghost use Rattle.moka_parts.specs.Writes.{left_with, without_victims};
 ghost use Rattle.moka_store.specs.Store.{IsPlaced};
-ghost use Rattle.moka_maintenance.specs.Chosen.{AreSettled, Chooses};
+ghost use Rattle.moka_maintenance.specs.Choice.{AreSettled, Chooses};
 ghost use Rattle.moka_maintenance.specs.Steps.{contents_in, contents_with, Told};
 ghost use Rattle.moka_maintenance.specs.Upkeep.{SetsNoTimer};
 

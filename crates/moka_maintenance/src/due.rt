@@ -5,7 +5,7 @@ ghost use Rattle.std.specs.Prelude.{◌≡◌, None, if◌then◌else◌};
 ghost use Rattle.std.specs.FinMap as finite;
 ghost use Rattle.moka_maintenance.specs.Handles.{IsMemberAt};
 ghost use Rattle.moka_maintenance.specs.Steps.{stock_in};
-ghost use Rattle.moka_maintenance.specs.Sweeps.{ExpiresDue};
+ghost use Rattle.moka_maintenance.specs.Sweep.{ExpiresDue};
 ghost use Rattle.moka_maintenance.specs.Upkeep.{IsReset, UpkeepAt};
 
 use crate::expel::expel;

@@ -2,7 +2,7 @@
 //!
 //! moka: `sync::base_cache::Inner::handle_remove`, `notification::notifier::RemovalNotifier::notify`.
 ghost use Rattle.moka_store.specs.Store.{IsHandle};
-ghost use Rattle.moka_maintenance.specs.Expelled.{Expels};
+ghost use Rattle.moka_maintenance.specs.Expel.{Expels};
 
 use moka_parts::notification::{Listener, RemovalCause, RemovalNotifier};
 use moka_parts::records::Record;

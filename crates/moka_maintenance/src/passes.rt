@@ -4,7 +4,7 @@
 ghost use Rattle.std.specs.Prelude.{◌≡◌, ◌+◌, ◌&&◌, ◌||◌, Some, nat_lt, option_map};
 ghost use Rattle.std.specs.Duration.{as_nanos};
 ghost use Rattle.moka_maintenance.specs.Steps.{stock_in};
-ghost use Rattle.moka_maintenance.specs.Sweeps.{is_taken, IsSwept};
+ghost use Rattle.moka_maintenance.specs.Sweep.{is_taken, IsSwept};
 ghost use Rattle.moka_maintenance.specs.Passes.{Starts, Checks, IsPass, IsRan};
 ghost use Rattle.moka_maintenance.specs.Timers.{AreOnTime};
 ghost use Rattle.moka_maintenance.specs.Upkeep.{SetsNoTimer, UpkeepAt};

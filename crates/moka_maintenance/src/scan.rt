@@ -8,7 +8,7 @@ ghost use Rattle.moka_parts.specs.declared.records.Registered.{Registered};
 ghost use Rattle.moka_parts.specs.Maintenance.{CoversNothing};
 ghost use Rattle.moka_store.specs.Store.{IsOrdered};
 ghost use Rattle.moka_maintenance.specs.Handles.{IsMemberAt};
-ghost use Rattle.moka_maintenance.specs.Scanning.{from_cursor, CoversSome, LooksAt, IsWalked, IsStretch, IsRound, AllDropped, IsScanned};
+ghost use Rattle.moka_maintenance.specs.Scan.{from_cursor, CoversSome, LooksAt, IsWalked, IsStretch, IsRound, AllDropped, IsScanned};
 ghost use Rattle.moka_maintenance.specs.Steps.{contents_in};
 
 use crate::expel::expel;

@@ -11,7 +11,7 @@ ghost use Rattle.moka_records.specs.Records.{total_weight};
 ghost use Rattle.moka_records.specs.Time.{is_before, moment_of};
 ghost use Rattle.moka_maintenance.specs.Handles.{IsMemberAt};
 ghost use Rattle.moka_maintenance.specs.Steps.{Stock, stock_in};
-ghost use Rattle.moka_maintenance.specs.Sweeps.{LeavesIn, IsNext, IsAtRest, TakesTurn, IsSwept};
+ghost use Rattle.moka_maintenance.specs.Sweep.{LeavesIn, IsNext, IsAtRest, TakesTurn, IsSwept};
 ghost use Rattle.moka_maintenance.specs.Upkeep.{SetsNoTimer};
 
 use crate::expel::expel;

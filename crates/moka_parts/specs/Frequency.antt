@@ -5,7 +5,7 @@ use Rattle.std.specs.List.{list_any}
 -- ---- the table
 
 -- a table of counters
-pub record Table : Type 0 where
+pub record SketchTable : Type 0 where
   -- how many groups of sixteen counters it has
   pub table_length : ℕ
   -- the counters by their places, each from 0 to 15
@@ -14,7 +14,7 @@ pub record Table : Type 0 where
   pub size : ℕ
 
 -- a fresh table: all its counters are 0
-abbrev pub no_counts : ℕ → Table
+abbrev pub no_counts : ℕ → SketchTable
 no_counts table_length = record { table_length = table_length; counters = replicate (16 * table_length) 0; size = 0 }
 
 -- ---- the four counters of a hash
@@ -45,7 +45,7 @@ abbrev pub least_at : List ℕ → List ℕ → ℕ
 least_at counters places = fold min 15 (map (λ p. slice_index counters p) places)
 
 -- how often a hash was seen: the least of its four counters, and 0 while there is no table
-abbrev pub frequency : Option Table → ℕ → ℕ
+abbrev pub frequency : Option SketchTable → ℕ → ℕ
 frequency None hash = 0
 frequency (Some t) hash = least_at t.counters (places_of t.table_length hash)
 
@@ -60,41 +60,41 @@ abbrev pub can_rise : List ℕ → List ℕ → Bool
 can_rise counters places = list_any (λ p. nat_lt (slice_index counters p) 15) places
 
 -- every counter is halved, and the size is half of what it reached
-abbrev pub halved : Table → Table
+abbrev pub halved : SketchTable → SketchTable
 halved t = record t { counters = map (λ c. c / 2) t.counters; size = 5 * t.table_length }
 
 -- the table, halved if so
-abbrev pub halved_if : Bool → Table → Table
+abbrev pub halved_if : Bool → SketchTable → SketchTable
 halved_if false t = t
 halved_if true t = halved t
 
 -- the table, halved if its size has reached ten times its length
-abbrev pub aged : Table → Table
+abbrev pub aged : SketchTable → SketchTable
 aged t = halved_if (t.size == 10 * t.table_length) t
 
 -- if one of the counters at the places can rise they are raised, and the size by one; else the table stays
-abbrev pub raised_if : Bool → Table → List ℕ → Table
+abbrev pub raised_if : Bool → SketchTable → List ℕ → SketchTable
 raised_if false t places = t
 raised_if true t places = aged (record t { counters = fold raised t.counters places; size = t.size + 1 })
 
 -- the table after one more increment
-abbrev pub incremented : Table → ℕ → Table
+abbrev pub incremented : SketchTable → ℕ → SketchTable
 incremented t hash =
     let places = places_of t.table_length hash in raised_if (can_rise t.counters places) t places
 
 -- a fresh table after increments of these hashes, in order
-abbrev pub table_after : ℕ → List ℕ → Table
+abbrev pub table_after : ℕ → List ℕ → SketchTable
 table_after table_length hashes = fold incremented (no_counts table_length) hashes
 
 -- one more increment, if there is a table
-abbrev pub counted_once : Option Table → ℕ → Option Table
+abbrev pub counted_once : Option SketchTable → ℕ → Option SketchTable
 counted_once None hash = None
 counted_once (Some t) hash = Some (incremented t hash)
 
 -- ---- sizes
 
 -- the length of the table, and 0 while there is none
-abbrev pub length_of : Option Table → ℕ
+abbrev pub length_of : Option SketchTable → ℕ
 length_of None = 0
 length_of (Some t) = t.table_length
 

@@ -14,7 +14,7 @@ use Rattle.moka_records.specs.Records.{is_member, without_member, to_back, total
 use Rattle.moka_parts.specs.State.{State, Settings, Contents, contents, with_contents, is_disabled}
 use Rattle.moka_records.specs.Time.{has_passed, deadline}
 use Rattle.moka_parts.specs.Visibility.{is_expired, is_written_before, is_read_before, Covers, SomeCovers}
-use Rattle.moka_parts.specs.Frequency.{Table, no_counts, size_asked, table_length_for}
+use Rattle.moka_parts.specs.Frequency.{SketchTable, no_counts, size_asked, table_length_for}
 use Rattle.moka_parts.specs.Reads.{after_reads}
 use Rattle.moka_parts.specs.Writes.{after_writes, left_by_writes, AreAllMoves, is_tiny_lfu}
 
@@ -83,7 +83,7 @@ is_over capacity members = not (has_room capacity (total_weight members) 0)
 
 -- the sketch is to be enabled: the policy is TinyLFU, the sketch is off, and at least half of a capacity other than 0
 -- is taken
-abbrev pub is_sketch_due : Option ℕ → EvictionPolicy → Option Table → ℕ → Bool
+abbrev pub is_sketch_due : Option ℕ → EvictionPolicy → Option SketchTable → ℕ → Bool
 is_sketch_due None policy sketch total = false
 is_sketch_due (Some capacity) policy sketch total =
     is_tiny_lfu policy && is_none sketch && not (capacity == 0) && nat_le (capacity / 2) total

@@ -13,7 +13,7 @@ use Rattle.moka_records.specs.Time.{greatest}
 use Rattle.moka_types.specs.Policy.{Limits}
 use Rattle.moka_records.specs.Records.{Records, Operations, total_weight}
 use Rattle.moka_parts.specs.Notices.{Notice}
-use Rattle.moka_parts.specs.Frequency.{Table}
+use Rattle.moka_parts.specs.Frequency.{SketchTable}
 use Rattle.moka_parts.specs.Housekeeping.{Housekeeping, new_housekeeping}
 
 -- what never changes; durations are in nanoseconds
@@ -46,7 +46,7 @@ pub record State (K V X P W : Type 0) : Type 0 where
   pub invalid_before : Option Instant
   pub predicates : List (Registered P)
   -- how often hashes were seen
-  pub sketch : Option Table
+  pub sketch : Option SketchTable
   pub next_ticket : ℕ
   pub next_number : ℕ
   -- the report of the last run
@@ -60,7 +60,7 @@ pub record State (K V X P W : Type 0) : Type 0 where
 pub record Contents (K V : Type 0) : Type 0 where
   pub records : Records K V
   pub access : List Member
-  pub sketch : Option Table
+  pub sketch : Option SketchTable
 
 -- what keys, listener, predicates, weigher, clock, source of identifiers and expiry mean; an expiry's answers are in
 -- nanoseconds

@@ -17,7 +17,7 @@ use Rattle.moka_engine.specs.parts.RestoreRefused.{RestoreRefused}
 use Rattle.moka_engine.proofs.RestoreSteps.{restored_valid}
 use Rattle.moka_calls.specs.Synchronous.{Made}
 use Rattle.moka_cache.specs.declared.cache.saves.RestoreManyRefused.{RestoreManyRefused}
-use Rattle.moka_cache.specs.Saved.{PutsAllBack, PutsBack, PutsManyBack}
+use Rattle.moka_cache.specs.Saves.{PutsAllBack, PutsBack, PutsManyBack}
 use Rattle.moka_restore_laws.specs.Among.{Part, Calls, Back, PartsKeep, PartsMade, RestoresAmongCalls, put_back}
 
 module _ {K V S X L P W C : Type 0} (m : Meaning K V X L P W C (Unit {0})) (hash_of : S → K → ℕ) where

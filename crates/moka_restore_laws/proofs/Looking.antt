@@ -21,7 +21,7 @@ use Rattle.moka_records.proofs.Maps.{found_inserted, get_inserted, get_past_inse
 use Rattle.moka_records.proofs.Values.{values_replaced}
 use Rattle.moka_laws.proofs.CallsKeep.{record_at_its_number}
 use Rattle.moka_laws.proofs.Kept.{kept_by_due}
-use Rattle.moka_cache.specs.Saved.{AreAsWeighed, HasRoomFor, IsRoomyFor, KeepsRecords, KeepsUnexpired}
+use Rattle.moka_cache.specs.Saves.{AreAsWeighed, HasRoomFor, IsRoomyFor, KeepsRecords, KeepsUnexpired}
 use Rattle.moka_cache.proofs.Keeping.{due_keeps}
 use Rattle.moka_cache.proofs.Lasting.{keeps_itself, keeps_to, listed_run_lasts}
 use Rattle.moka_restore_laws.proofs.Twins.{IsFresh, IsTimely, hit_now}

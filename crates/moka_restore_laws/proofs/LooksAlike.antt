@@ -24,7 +24,7 @@ use Rattle.moka_laws.proofs.CallsKeep.{record_at_its_number}
 use Rattle.moka_laws.proofs.OrderedDrive.{listed_call_made}
 use Rattle.moka_laws.proofs.StepsKeep.{call_keeps}
 use Rattle.moka_engine.specs.parts.Restored.{Restored}
-use Rattle.moka_cache.specs.Saved.{IsRoomyFor}
+use Rattle.moka_cache.specs.Saves.{IsRoomyFor}
 use Rattle.moka_restore_laws.specs.Looks.{AreInTime, IsAnswered, IsLikeFirst, LookAlike, LooksAnswerAlike}
 use Rattle.moka_restore_laws.proofs.MadeAgain.{clone_from, cloned, written_in_first}
 use Rattle.moka_restore_laws.proofs.Twins.{HasSameTimes, IsFresh, IsReflected, IsTimely, IsTwin, fresh_twin, hit_twins, reflected_later, timely_later, times_turned, turned, twin_applied}

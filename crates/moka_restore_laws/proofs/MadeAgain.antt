@@ -22,8 +22,8 @@ use Rattle.moka_laws.proofs.OrderKept.{of_each}
 use Rattle.moka_records.proofs.Values.{values-empty}
 use Rattle.moka_laws.proofs.Surplus.{none_of_five}
 use Rattle.moka_engine.specs.parts.Restored.{Restored}
-use Rattle.moka_engine.specs.Snapshots.{Seen, IsListed, scene_of}
-use Rattle.moka_cache.specs.Saved.{AreAsWeighed, AreSaved, IsOfItem, IsSaved, IsRestored, HasRoomFor, has_expired}
+use Rattle.moka_engine.specs.Snapshot.{Seen, IsListed, scene_of}
+use Rattle.moka_cache.specs.Saves.{AreAsWeighed, AreSaved, IsOfItem, IsSaved, IsRestored, HasRoomFor, has_expired}
 use Rattle.moka_cache.proofs.Membership.{none_waits}
 use Rattle.moka_cache.specs.Visible.{ClonesAreSameKeys}
 use Rattle.moka_restore_laws.specs.Again.{IsMadeAgain, AnswerAlike, MadeAgainAnswersAlike, EmptyHasRoom}

@@ -15,7 +15,7 @@ use Rattle.moka_parts.specs.State.{State, Meaning, Events, is_disabled}
 use Rattle.moka_parts.proofs.Counting.{exact_weight}
 use Rattle.moka_laws.proofs.Alike.{listed_run_alike}
 use Rattle.moka_calls.specs.Synchronous.{own_run}
-use Rattle.moka_cache.specs.Saved.{AreAsWeighed, HasRoomFor, IsRoomyFor}
+use Rattle.moka_cache.specs.Saves.{AreAsWeighed, HasRoomFor, IsRoomyFor}
 use Rattle.moka_cache.proofs.Membership.{none_waits}
 use Rattle.moka_cache.proofs.Posting.{listed_run_empties}
 use Rattle.moka_restore_laws.specs.Looks.{RunLeavesRoom}

@@ -8,8 +8,8 @@ use Rattle.moka_parts.specs.Settling.{IsValid}
 use Rattle.moka_parts.specs.State.{State, is_disabled}
 use Rattle.moka_parts.specs.Visibility.{IsVisible}
 use Rattle.moka_engine.specs.parts.Restored.{Restored}
-use Rattle.moka_engine.specs.Snapshots.{scene_of}
-use Rattle.moka_cache.specs.Saved.{AddsOnly, AreSaved, AreThere, HasOnlyMembers, IsRoomyFor, WeighAtMost}
+use Rattle.moka_engine.specs.Snapshot.{scene_of}
+use Rattle.moka_cache.specs.Saves.{AddsOnly, AreSaved, AreThere, HasOnlyMembers, IsRoomyFor, WeighAtMost}
 use Rattle.moka_cache.specs.Unsent.{HidesNoMore}
 use Rattle.moka_cache.specs.Visible.{ClonesAreSameKeys}
 

@@ -11,7 +11,7 @@ use Rattle.moka_engine.specs.parts.Restored.{Restored}
 use Rattle.moka_engine.specs.parts.RestoreRefused.{RestoreRefused}
 use Rattle.moka_calls.specs.Synchronous.{Made}
 use Rattle.moka_cache.specs.declared.cache.saves.RestoreManyRefused.{RestoreManyRefused}
-use Rattle.moka_cache.specs.Saved.{PutsBack, PutsManyBack}
+use Rattle.moka_cache.specs.Saves.{PutsBack, PutsManyBack}
 
 -- what was made of a cache
 pub data Part (K V P : Type 0) : Type 0 where

@@ -15,7 +15,7 @@ use Rattle.moka_parts.specs.Settling.{IsValid}
 use Rattle.moka_parts.specs.State.{State, Meaning, is_disabled}
 use Rattle.moka_engine.specs.parts.Restored.{Restored}
 use Rattle.moka_calls.specs.Synchronous.{Made, Makes, Just, own_run}
-use Rattle.moka_cache.specs.Saved.{IsRoomyFor, TakesOnlyExpired}
+use Rattle.moka_cache.specs.Saves.{IsRoomyFor, TakesOnlyExpired}
 use Rattle.moka_restore_laws.specs.Again.{IsMadeAgain}
 
 module _ {K V P : Type 0} where

@@ -6,7 +6,7 @@ use Rattle.moka_engine.specs.parts.Instant.{Instant}
 use Rattle.moka_engine.specs.parts.OutOfMemory.{OutOfMemory}
 use Rattle.moka_engine.specs.State.{Meaning}
 use Rattle.moka_cache.specs.parts.CacheEntry.{CacheEntry}
-use Rattle.moka_cache.specs.Entries.{OrInserts}
+use Rattle.moka_cache.specs.Entry.{OrInserts}
 use Rattle.moka_cache.specs.Synchronous.{GetsOrInserts}
 use Rattle.moka_router.specs.Routing.{segment_of}
 use Rattle.moka_segment_laws.specs.Moves.{IsOneMove, MovesBy, for_all_calls}

@@ -6,8 +6,8 @@ use Rattle.std.proofs.lemmas.List.FromFn.{length-map-range_with_len, get_or-map-
 use Rattle.std.proofs.lemmas.Grind.{same_number_lists}
 use Rattle.std.proofs.lemmas.Nat.{and_mask, pow_pos}
 use Rattle.std.specs.Int.{IsPowerOfTwo}
-use Rattle.moka_parts.specs.Frequency.{Table, no_counts, group_of, place_of, places_of, raised, can_rise, raised_if, counted_once}
-use Rattle.moka_sketch.specs.Packing.{counter_at, counters_of, table_of, IsSound}
+use Rattle.moka_parts.specs.Frequency.{SketchTable, no_counts, group_of, place_of, places_of, raised, can_rise, raised_if, counted_once}
+use Rattle.moka_sketch.specs.Words.{counter_at, counters_of, table_of, IsSketch}
 
 pub length-counters_of : (words : List ℕ) → length (counters_of words) ≡ 16 * length words
 unfolding counters_of
@@ -77,7 +77,7 @@ table_of-some (word ∷ words) size l = refl
 pub table_of-zeros : (n : ℕ) → 0 < n → table_of (replicate {A = ℕ} n 0) 0 ≡ Some (no_counts n)
 table_of-zeros n l =
     let long : length (replicate {A = ℕ} n 0) ≡ n = length-replicate {A = ℕ} n 0 in
-    let build : ℕ → List ℕ → Option Table = λ a b. Some (record { table_length = a; counters = b; size = 0 }) in
+    let build : ℕ → List ℕ → Option SketchTable = λ a b. Some (record { table_length = a; counters = b; size = 0 }) in
     table_of-some (replicate n 0) 0 (omega arith)
     ∙ ap (λ x. build x (counters_of (replicate n 0))) long
     ∙ ap (λ x. build n x) (counters_of-zeros n)
@@ -115,7 +115,7 @@ module _ (words : List ℕ) (hash i factor at position : ℕ) (e : at ≡ group_
       ∙ ap (λ x. set (counters_of words) place x) (omega arith)
 
 -- a fresh table is sound
-pub IsSound-zeros : (n room : ℕ) → IsPowerOfTwo n → n ≤ 2 ^ 30 → 128 ≤ room → IsSound (replicate {A = ℕ} n 0) room 0
+pub IsSound-zeros : (n room : ℕ) → IsPowerOfTwo n → n ≤ 2 ^ 30 → 128 ≤ room → IsSketch (replicate {A = ℕ} n 0) room 0
 IsSound-zeros n room power within enough =
     let long : length (replicate {A = ℕ} n 0) ≡ n = length-replicate {A = ℕ} n 0 in
     let some = power_pos n power in
@@ -129,7 +129,7 @@ IsSound-zeros n room power within enough =
 -- where no counter of a hash can rise, the table stays
 pub counted_once-kept : (words after : List ℕ) (size hash : ℕ) → 0 < length words → after ≡ words → can_rise (counters_of words) (places_of (length words) hash) ≡ false → table_of after size ≡ counted_once (table_of words size) hash
 counted_once-kept words after size hash some same none =
-    let t : Table = record { table_length = length words; counters = counters_of words; size = size } in
+    let t : SketchTable = record { table_length = length words; counters = counters_of words; size = size } in
     ap (λ (x : List ℕ). table_of x size) same
     ∙ table_of-some words size some
     ∙ sym (ap (λ x. counted_once x hash) (table_of-some words size some) ∙ ap (λ b. Some (raised_if b t (places_of (length words) hash))) none)

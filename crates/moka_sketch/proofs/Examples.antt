@@ -1,7 +1,7 @@
 -- What the definitions compute on worked cases.
 use Rattle.std.proofs.Common.{◌≡◌, ℕ, true, false, List, [], ◌∷◌, ◌++◌, Option, Some, None, replicate, map, refl, ◌^◌, ◌-◌, ◌/◌}
-use Rattle.moka_parts.specs.Frequency.{Table, table_after, places_of, frequency, counted_once, table_length_for, sketch_capacity_for, size_asked}
-use Rattle.moka_sketch.specs.Packing.{counters_of}
+use Rattle.moka_parts.specs.Frequency.{SketchTable, table_after, places_of, frequency, counted_once, table_length_for, sketch_capacity_for, size_asked}
+use Rattle.moka_sketch.specs.Words.{counters_of}
 
 -- ---- the counters of a hash
 
@@ -13,7 +13,7 @@ places_of_greatest_hash = refl
 
 -- ---- a table of length 128
 
-abbrev seen : List ℕ → Option Table
+abbrev seen : List ℕ → Option SketchTable
 seen hashes = Some (table_after 128 hashes)
 
 pub seen_three_times : frequency (seen (5 ∷ 5 ∷ 5 ∷ [])) 5 ≡ 3
@@ -40,7 +40,7 @@ not_counted_while_off = refl
 
 -- ---- a table of length 1, where all hashes that are equal modulo 4 share their counters
 
-abbrev ten : Table
+abbrev ten : SketchTable
 ten = table_after 1 (replicate 10 5)
 
 -- the tenth increment halves
@@ -51,7 +51,7 @@ pub halved_size : ten.size ≡ 5
 halved_size = refl
 
 -- an odd count is halved to the number below its half, and 1 to 0
-abbrev nine_and_one : Table
+abbrev nine_and_one : SketchTable
 nine_and_one = table_after 1 (replicate 9 5 ++ 6 ∷ [])
 
 pub halved_odd_count : frequency (Some nine_and_one) 5 ≡ 4
@@ -63,7 +63,7 @@ halved_one = refl
 -- ---- a table of length 2, where 0 and 4 share the second and the third counter alone
 
 -- after two increments of 4 and one of 0 those counters are 3
-abbrev shared : Table
+abbrev shared : SketchTable
 shared = table_after 2 (4 ∷ 4 ∷ 0 ∷ [])
 
 pub shared_counters : shared.counters ≡ 1 ∷ 3 ∷ 3 ∷ 1 ∷ replicate 12 0 ++ 2 ∷ 0 ∷ 0 ∷ 2 ∷ replicate 12 0

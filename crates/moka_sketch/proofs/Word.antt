@@ -3,7 +3,7 @@ use Rattle.std.proofs.Common.{◌≡◌, ◌≢◌, ℕ, ◌+◌, ◌-◌, ◌*�
 use Rattle.std.proofs.Math.Nat.{add-mul-div_right, mul-le-mul_right}
 use Rattle.std.proofs.lemmas.Nat.{pow_pos, pow-add, shr-shr, and_shr, and_mod, and_mask, shr_split, mod_below, shr_below}
 use Rattle.std.proofs.lemmas.Bool.{agree_below, agree_below_at, eqb-true}
-use Rattle.moka_sketch.specs.Packing.{counter_at}
+use Rattle.moka_sketch.specs.Words.{counter_at}
 
 -- the counters below the position stay
 raised-below : (n p q : ℕ) → q < p → counter_at (n + 2 ^ (4 * p)) q ≡ counter_at n q

@@ -1,8 +1,8 @@
 //! How often hashes were seen lately, which decides who enters a full cache.
 ghost use Rattle.std.specs.Prelude.{◌≡◌, ◌+◌, ◌-◌, ◌^◌, ◌<◌, ◌≤◌, ℕ, min, max, Option, Some, None, List, [], ◌∷◌, ◌++◌, IfOk, OnOk, OnErr, replicate, vec_capacity};
 ghost use Rattle.std.specs.Int.{IsPowerOfTwo};
-ghost use Rattle.moka_parts.specs.Frequency.{Table, frequency, counted_once, no_counts, table_after, length_of, table_length_for, sketch_capacity_for};
-ghost use Rattle.moka_sketch.specs.Packing.{IsSound};
+ghost use Rattle.moka_parts.specs.Frequency.{SketchTable, frequency, counted_once, no_counts, table_after, length_of, table_length_for, sketch_capacity_for};
+ghost use Rattle.moka_sketch.specs.Words.{IsSketch};
 
 use crate::words::{count_once, least_count};
 use std::alloc::{AllocError, Global};
@@ -37,14 +37,14 @@ impl Drop for FrequencySketch {
 
 impl Model for FrequencySketch {
     ghost use Rattle.std.specs.Prelude.{Option, vec_capacity};
-    ghost use Rattle.moka_parts.specs.Frequency.{Table};
-    ghost use Rattle.moka_sketch.specs.Packing.{table_of, IsSound};
+    ghost use Rattle.moka_parts.specs.Frequency.{SketchTable};
+    ghost use Rattle.moka_sketch.specs.Words.{table_of, IsSketch};
 
-    ghost Value = { Option Table };
+    ghost Value = { Option SketchTable };
 
     ghost view = { λ s. table_of s.words.items s.size };
 
-    ghost invariant = { λ s. IsSound s.words.items (vec_capacity s.words) s.size };
+    ghost invariant = { λ s. IsSketch s.words.items (vec_capacity s.words) s.size };
 }
 
 /// The length of the table, in words, for a size asked for: the least power of two that is no less than the size,
@@ -79,7 +79,7 @@ fn zeroed(words: &mut Vec<u64>, length: usize) -> Result<(), AllocError>
     ensures ok { OnOk result (words.new.items ≡ replicate length 0) }
     ensures err { OnErr result (words.new.items ≡ replicate 128 0) }
     ensures refused { OnErr result (128 < length) }
-    ensures sound { IsSound words.new.items (vec_capacity words.new) 0 }
+    ensures sound { IsSketch words.new.items (vec_capacity words.new) 0 }
 {
     words.clear();
     let made = words.resize(length, 0);

@@ -2,7 +2,7 @@
 ghost use Rattle.std.specs.Prelude.{◌≡◌, ◌≢◌, ◌+◌, ◌-◌, ◌*◌, ◌/◌, ◌%◌, ◌^◌, ◌<◌, ◌≤◌, ◌↔◌, ℕ, IsTrue, false, length, slice_index, map, fold, min};
 ghost use Rattle.std.specs.Int.{IsPowerOfTwo};
 ghost use Rattle.moka_parts.specs.Frequency.{group_of, place_of, places_of, least_at, raised, can_rise, counted_once};
-ghost use Rattle.moka_sketch.specs.Packing.{counter_at, counters_of, table_of};
+ghost use Rattle.moka_sketch.specs.Words.{counter_at, counters_of, table_of};
 
 /// The greatest count.
 const GREATEST: u64 = 15;

@@ -15,11 +15,11 @@ use Rattle.moka_store.proofs.Slots.{slot-row, no-node, one-node}
 use Rattle.moka_store.proofs.Ties.{counted-row, counted-unplaced}
 use Rattle.moka_store.proofs.Written.{listed-row, cursor-none, cursor-some}
 use Rattle.moka_store.proofs.Timed.{moment-row, untimed}
-use Rattle.moka_wheel.specs.Wheel.{Timer}
-use Rattle.moka_store.specs.Timing.{Timing}
+use Rattle.moka_wheel.specs.TimerWheel.{Timer}
+use Rattle.moka_store.specs.Timers.{Timing}
 use Rattle.moka_store.specs.Store.{Kept, IsOff, number_after, cursor_past}
-use Rattle.moka_store.specs.Listing.{Listing, IsCursor}
-use Rattle.moka_store.specs.StoreRows.{written_in, member_at, written_of, cursor_of}
+use Rattle.moka_store.specs.WriteList.{Listing, IsCursor}
+use Rattle.moka_store.specs.Rows.{written_in, member_at, written_of, cursor_of}
 use Rattle.moka_store.specs.StoreTies.{KeyIndex, IsTied, IsWritten, IsTimed, kept_of}
 use Rattle.moka_records.specs.declared.records.Record.{Record}
 use Rattle.moka_records.proofs.Maps.{apart_turned}

@@ -12,7 +12,7 @@ use Rattle.std.specs.Map.{lookup, remove_entry, keys_of}
 use Rattle.std.specs.Option.{option_map}
 use Rattle.std.specs.Prelude.{slice_index_or, slice_set, slice_get}
 use Rattle.moka_table.proofs.TableMaps.{row_at-within}
-use Rattle.moka_structures.specs.Order.{next_after}
+use Rattle.moka_structures.specs.OrderList.{next_after}
 use Rattle.moka_store.specs.Store.{behind}
 use Rattle.moka_records.specs.declared.records.Member.{Member}
 use Rattle.moka_records.specs.Records.{counted_of}

@@ -12,18 +12,18 @@ use Rattle.moka_table.proofs.TableMaps.{some_is, read-of, altered-same}
 use Rattle.moka_table.proofs.TableCalls.{get-places}
 use Rattle.moka_table.specs.declared.table.membership.Membership.{Membership}
 use Rattle.moka_table.specs.RecordTable.{Row, row_at, number_at, membership_at, places_of, IsNumbered, ChangesAt}
-use Rattle.moka_wheel.specs.Wheel.{Timer}
+use Rattle.moka_wheel.specs.TimerWheel.{Timer}
 use Rattle.moka_store.proofs.Nodes.{map-all, node-in}
 use Rattle.moka_store.proofs.Slots.{slot-row, number-of, node-of, listed-kept, listed-moved, listed-added, listed-removed, listed-empty}
 use Rattle.moka_store.proofs.Timed.{timed-kept, timers-kept, timed-set, timers-set, timers-gone, timed-below, moment-row}
 use Rattle.moka_store.proofs.Ties.{reads-same, read-other, read-same, counted-row}
 use Rattle.moka_store.proofs.Written.{listed-row, written-same, cursor-same, written-pushed, written-moved, written-removed, cursor-past}
 use Rattle.moka_store.specs.declared.store.Handle.{Handle}
-use Rattle.moka_store.specs.Listing.{Listing, IsCursor, node_past}
+use Rattle.moka_store.specs.WriteList.{Listing, IsCursor, node_past}
 use Rattle.moka_store.specs.Store.{IsOrdered, cursor_past, with_timer}
-use Rattle.moka_store.specs.StoreRows.{written_in, written_at, timer_at, member_at, written_of, cursor_of, timers_of}
-use Rattle.moka_store.specs.StoreTies.{KeyIndex, IsListed, IsTied, IsWritten, IsTimed, kept_of}
-use Rattle.moka_store.specs.Timing.{Timing, timer_after}
+use Rattle.moka_store.specs.Rows.{written_in, written_slot_at, timer_at, member_at, written_of, cursor_of, timers_of}
+use Rattle.moka_store.specs.StoreTies.{KeyIndex, HasSlots, IsTied, IsWritten, IsTimed, kept_of}
+use Rattle.moka_store.specs.Timers.{Timing, timer_after}
 use Rattle.moka_records.specs.declared.instant.Instant.{Instant}
 use Rattle.moka_records.specs.declared.records.Record.{Record}
 use Rattle.moka_records.specs.Records.{counted_of, without_number, number_to_back, entered_by}
@@ -63,10 +63,10 @@ module _ {K V : Type 0} (rows new : List (Option (Row (Record K V)))) (place : �
     | inr ne ↦ ap (λ o. option_map_or (λ (row : Row (Record K V)). row.number) o 0) (c.others p ne)
   ]
 
-  numbers : (p : ℕ) → IsSome (written_at rows p) → number_at new p ≡ number_at rows p
+  numbers : (p : ℕ) → IsSome (written_slot_at rows p) → number_at new p ≡ number_at rows p
   numbers p some = kept p (written-member (row_at rows p) some)
 
-  module _ (list : Listing) (w : IsWritten rows list) (slot : option_and_then written_in o ≡ written_at rows place) where
+  module _ (list : Listing) (w : IsWritten rows list) (slot : option_and_then written_in o ≡ written_slot_at rows place) where
     pub stays-written : WrittenAfter new list (written_of rows list.nodes) (cursor_of rows list.cursor)
     stays-written = record {
       written = record {
@@ -127,8 +127,8 @@ nodes-kept list after (Some s) h = h
 
 module _ {K V : Type 0} (rows : List (Option (Row (Record K V)))) (list after : Listing) (w : IsWritten rows list) (d : IsNumbered (row_at rows)) (place : ℕ) (row : Row (Record K V)) (at_is : row_at rows place ≡ Some row) where
   moved-listed : (slot : Option ℕ) → written_in row ≡ slot → IfSome slot (λ s. (p : ℕ) → lookup (nat_eq s) list.nodes ≡ Some p → after.nodes ≡ remove_entry (nat_eq s) list.nodes ++ (s, p) ∷ []) → ((s : ℕ) → lookup (nat_eq s) after.nodes ≡ lookup (nat_eq s) list.nodes)
-      → IfNone slot (after ≡ list) → IsListed written_in rows after.nodes
-  moved-listed None is some u none = subst (λ l. IsListed written_in rows l.nodes) (sym none) w.listed
+      → IfNone slot (after ≡ list) → HasSlots written_in rows after.nodes
+  moved-listed None is some u none = subst (λ l. HasSlots written_in rows l.nodes) (sym none) w.listed
   moved-listed (Some s) is some u none = listed-moved written_in rows list.nodes w.listed s place after.nodes (some place (node-of written_in rows list.nodes w.listed place row at_is s is)) u
 
   pub moves : (slot : Option ℕ) → written_in row ≡ slot
@@ -170,10 +170,10 @@ module _ {K V : Type 0} (rows new : List (Option (Row (Record K V)))) (list afte
     row = record was { membership = Some m }
 
     entered-listed : (slot : Option ℕ) → m.written ≡ slot → IfSome slot (λ slot. lookup (nat_eq slot) list.nodes ≡ None) → IfSome slot (λ slot. after.nodes ≡ list.nodes ++ (slot, place) ∷ [])
-        → IfSome slot (λ slot. (s : ℕ) → lookup (nat_eq s) after.nodes ≡ cond (nat_eq s slot) (Some place) (lookup (nat_eq s) list.nodes)) → IfNone slot (after ≡ list) → IsListed written_in new after.nodes
+        → IfSome slot (λ slot. (s : ℕ) → lookup (nat_eq s) after.nodes ≡ cond (nat_eq s slot) (Some place) (lookup (nat_eq s) list.nodes)) → IfNone slot (after ≡ list) → HasSlots written_in new after.nodes
     unfolding row
     entered-listed None is fresh nodes lookups none =
-        subst (λ l. IsListed written_in new l.nodes) (sym none) (listed-kept written_in rows list.nodes w.listed new (read-same written_in (row_at rows) (row_at new) place (Some row) c (is ∙ sym (ap (option_and_then written_in) at_is ∙ ap (option_and_then (λ (m : Membership). m.written)) alone))))
+        subst (λ l. HasSlots written_in new l.nodes) (sym none) (listed-kept written_in rows list.nodes w.listed new (read-same written_in (row_at rows) (row_at new) place (Some row) c (is ∙ sym (ap (option_and_then written_in) at_is ∙ ap (option_and_then (λ (m : Membership). m.written)) alone))))
     entered-listed (Some s) is fresh nodes lookups none =
         listed-added written_in rows list.nodes w.listed s place after.nodes new (read-other written_in (row_at rows) (row_at new) place (Some row) c)
         (ap (option_and_then written_in) at_is ∙ ap (option_and_then (λ (m : Membership). m.written)) alone) (ap (option_and_then written_in) c.changed ∙ is) fresh nodes lookups
@@ -184,8 +184,8 @@ module _ {K V : Type 0} (rows new : List (Option (Row (Record K V)))) (list afte
       written = record {
         listed = entered-listed m.written refl fresh nodes lookups none;
         cursor = cursor;
-        all = λ ordered p some. elim (cases_eq p place) as (λ _. IsSome (written_at new p)) [
-          | inl q ↦ ap (λ p. is_some (written_at new p)) q ∙ ap (λ o. is_some (option_and_then written_in o)) c.changed ∙ kept ∙ sym (ap (λ (l : Listing). l.ordered) rest) ∙ ordered
+        all = λ ordered p some. elim (cases_eq p place) as (λ _. IsSome (written_slot_at new p)) [
+          | inl q ↦ ap (λ p. is_some (written_slot_at new p)) q ∙ ap (λ o. is_some (option_and_then written_in o)) c.changed ∙ kept ∙ sym (ap (λ (l : Listing). l.ordered) rest) ∙ ordered
           | inr ne ↦
               ap is_some (read-other written_in (row_at rows) (row_at new) place (Some row) c p ne)
               ∙ w.all (sym (ap (λ (l : Listing). l.ordered) rest) ∙ ordered) p (ap is_some (sym (other-member row c p ne)) ∙ some)
@@ -215,10 +215,10 @@ module _ {K V : Type 0} (rows new : List (Option (Row (Record K V)))) (list afte
     slot-was = ap (option_and_then (λ (m : Membership). m.written)) there
 
     left-listed : (slot : Option ℕ) → m.written ≡ slot → IfSome slot (λ s. after.nodes ≡ remove_entry (nat_eq s) list.nodes)
-        → IfSome slot (λ s. (other : ℕ) → lookup (nat_eq other) after.nodes ≡ cond (nat_eq s other) None (lookup (nat_eq other) list.nodes)) → IfNone slot (after ≡ list) → IsListed written_in new after.nodes
+        → IfSome slot (λ s. (other : ℕ) → lookup (nat_eq other) after.nodes ≡ cond (nat_eq s other) None (lookup (nat_eq other) list.nodes)) → IfNone slot (after ≡ list) → HasSlots written_in new after.nodes
     unfolding bare
     left-listed None is nodes lookups none =
-        subst (λ l. IsListed written_in new l.nodes) (sym none) (listed-kept written_in rows list.nodes w.listed new (read-same written_in (row_at rows) (row_at new) place (Some bare) c (sym (ap (option_and_then written_in) at_is ∙ slot-was ∙ is))))
+        subst (λ l. HasSlots written_in new l.nodes) (sym none) (listed-kept written_in rows list.nodes w.listed new (read-same written_in (row_at rows) (row_at new) place (Some bare) c (sym (ap (option_and_then written_in) at_is ∙ slot-was ∙ is))))
     left-listed (Some s) is nodes lookups none =
         listed-removed written_in rows list.nodes w.listed s place after.nodes new (read-other written_in (row_at rows) (row_at new) place (Some bare) c)
         (ap (option_and_then written_in) at_is ∙ slot-was ∙ is) (ap (option_and_then written_in) c.changed) nodes lookups
@@ -237,7 +237,7 @@ module _ {K V : Type 0} (rows new : List (Option (Row (Record K V)))) (list afte
       written = record {
         listed = left-listed m.written refl nodes lookups none;
         cursor = cursor;
-        all = λ ordered p some. elim (cases_eq p place) as (λ _. IsSome (written_at new p)) [
+        all = λ ordered p some. elim (cases_eq p place) as (λ _. IsSome (written_slot_at new p)) [
           | inl q ↦ absurd (false≢true (sym (ap (λ p. is_some (membership_at new p)) q ∙ ap (λ o. is_some (option_and_then (λ (row : Row (Record K V)). row.membership) o)) c.changed) ∙ some))
           | inr ne ↦
               ap is_some (read-other written_in (row_at rows) (row_at new) place (Some bare) c p ne)

@@ -9,7 +9,7 @@ use Rattle.moka_records.specs.declared.records.Record.{Record}
 use Rattle.moka_records.specs.declared.records.Member.{Member}
 use Rattle.moka_records.specs.Records.{counted_of}
 use Rattle.moka_records.proofs.Maps.{same_by_test}
-use Rattle.moka_store.specs.StoreRows.{member_at, row_room}
+use Rattle.moka_store.specs.Rows.{member_at, row_room}
 use Rattle.moka_store.specs.StoreTies.{KeyIndex, IsTied}
 use Rattle.moka_table.proofs.TableMaps.{some_is, read-of}
 use Rattle.moka_store.proofs.Nodes.{in-nodes}

@@ -8,7 +8,7 @@ use Rattle.moka_structures.proofs.Linked.{linked-same, linked-added, linked-remo
 use Rattle.moka_table.specs.RecordTable.{Row, row_at, number_at, IsNumbered}
 use Rattle.moka_table.proofs.TableMaps.{read-of}
 use Rattle.moka_store.proofs.Nodes.{in-nodes, length-nodes, length-nodes_below, distinct-none, distinct-push, distinct-remove, lookup-removed}
-use Rattle.moka_store.specs.StoreTies.{IsListed}
+use Rattle.moka_store.specs.StoreTies.{HasSlots}
 use Rattle.moka_records.specs.declared.records.Record.{Record}
 
 -- the row with this slot, to which its node leads
@@ -21,7 +21,7 @@ pub record SlotRow {K V : Type 0} (slot_in : Row (Record K V) → Option ℕ) (r
 pub number-of : {K V : Type 0} (rows : List (Option (Row (Record K V)))) (place : ℕ) (row : Row (Record K V)) → row_at rows place ≡ Some row → number_at rows place ≡ row.number
 number-of rows place row e = ap (λ o. option_map_or (λ (row : Row (Record _ _)). row.number) o 0) e
 
-module _ {K V : Type 0} (slot_in : Row (Record K V) → Option ℕ) (rows : List (Option (Row (Record K V)))) (nodes : List (ℕ × ℕ)) (l : IsListed slot_in rows nodes) where
+module _ {K V : Type 0} (slot_in : Row (Record K V) → Option ℕ) (rows : List (Option (Row (Record K V)))) (nodes : List (ℕ × ℕ)) (l : HasSlots slot_in rows nodes) where
   pub slot-row : (m : ℕ × ℕ) → Contains nodes m → SlotRow slot_in rows m
   slot-row m h =
       let w = read-of slot_in (row_at rows m.1) m.0 (l.linked.to_slot m.0 m.1 (in-nodes nodes m l.distinct h)) in
@@ -67,7 +67,7 @@ module _ {K V : Type 0} (slot_in : Row (Record K V) → Option ℕ) (rows : List
   -- ---- after a change
 
   -- no row has another slot than before
-  pub listed-kept : (new : List (Option (Row (Record K V)))) → ((p : ℕ) → option_and_then slot_in (row_at new p) ≡ option_and_then slot_in (row_at rows p)) → IsListed slot_in new nodes
+  pub listed-kept : (new : List (Option (Row (Record K V)))) → ((p : ℕ) → option_and_then slot_in (row_at new p) ≡ option_and_then slot_in (row_at rows p)) → HasSlots slot_in new nodes
   listed-kept new same = record {
     linked = linked-same (λ p. option_and_then slot_in (row_at rows p)) (λ p. option_and_then slot_in (row_at new p)) (λ s. lookup (nat_eq s) nodes) (λ s. lookup (nat_eq s) nodes) l.linked same (λ s. refl);
     distinct = l.distinct;
@@ -75,7 +75,7 @@ module _ {K V : Type 0} (slot_in : Row (Record K V) → Option ℕ) (rows : List
 
   module _ (slot place : ℕ) (after : List (ℕ × ℕ)) where
     -- the node goes to the back
-    pub listed-moved : after ≡ remove_entry (nat_eq slot) nodes ++ (slot, place) ∷ [] → ((s : ℕ) → lookup (nat_eq s) after ≡ lookup (nat_eq s) nodes) → IsListed slot_in rows after
+    pub listed-moved : after ≡ remove_entry (nat_eq slot) nodes ++ (slot, place) ∷ [] → ((s : ℕ) → lookup (nat_eq s) after ≡ lookup (nat_eq s) nodes) → HasSlots slot_in rows after
     listed-moved is u = record {
       linked = linked-same (λ p. option_and_then slot_in (row_at rows p)) (λ p. option_and_then slot_in (row_at rows p)) (λ s. lookup (nat_eq s) nodes) (λ s. lookup (nat_eq s) after) l.linked (λ p. refl) u;
       distinct = subst (λ l. IsDistinct nat_eq (keys_of l)) (sym is) (distinct-push (remove_entry (nat_eq slot) nodes) slot place (distinct-remove (nat_eq slot) nodes l.distinct) (lookup-removed slot nodes l.distinct));
@@ -84,7 +84,7 @@ module _ {K V : Type 0} (slot_in : Row (Record K V) → Option ℕ) (rows : List
     module _ (new : List (Option (Row (Record K V)))) (others : (p : ℕ) → p ≢ place → option_and_then slot_in (row_at new p) ≡ option_and_then slot_in (row_at rows p)) where
       -- the row gets the slot of a new node behind all others
       pub listed-added : option_and_then slot_in (row_at rows place) ≡ None → option_and_then slot_in (row_at new place) ≡ Some slot → lookup (nat_eq slot) nodes ≡ None → after ≡ nodes ++ (slot, place) ∷ []
-          → ((s : ℕ) → lookup (nat_eq s) after ≡ cond (nat_eq s slot) (Some place) (lookup (nat_eq s) nodes)) → IsListed slot_in new after
+          → ((s : ℕ) → lookup (nat_eq s) after ≡ cond (nat_eq s slot) (Some place) (lookup (nat_eq s) nodes)) → HasSlots slot_in new after
       listed-added was now free is u = record {
         linked = linked-added (λ p. option_and_then slot_in (row_at rows p)) (λ p. option_and_then slot_in (row_at new p)) (λ s. lookup (nat_eq s) nodes) (λ s. lookup (nat_eq s) after) l.linked slot place others was now free u;
         distinct = subst (λ l. IsDistinct nat_eq (keys_of l)) (sym is) (distinct-push nodes slot place l.distinct free);
@@ -92,14 +92,14 @@ module _ {K V : Type 0} (slot_in : Row (Record K V) → Option ℕ) (rows : List
 
       -- the row's node leaves
       pub listed-removed : option_and_then slot_in (row_at rows place) ≡ Some slot → option_and_then slot_in (row_at new place) ≡ None → after ≡ remove_entry (nat_eq slot) nodes
-          → ((s : ℕ) → lookup (nat_eq s) after ≡ cond (nat_eq slot s) None (lookup (nat_eq s) nodes)) → IsListed slot_in new after
+          → ((s : ℕ) → lookup (nat_eq s) after ≡ cond (nat_eq slot s) None (lookup (nat_eq s) nodes)) → HasSlots slot_in new after
       listed-removed was now is u = record {
         linked = linked-removed (λ p. option_and_then slot_in (row_at rows p)) (λ p. option_and_then slot_in (row_at new p)) (λ s. lookup (nat_eq s) nodes) (λ s. lookup (nat_eq s) after) l.linked slot place others was now u;
         distinct = subst (λ l. IsDistinct nat_eq (keys_of l)) (sym is) (distinct-remove (nat_eq slot) nodes l.distinct);
       }
 
 -- no nodes and no rows
-pub listed-empty : {K V : Type 0} (slot_in : Row (Record K V) → Option ℕ) (rows : List (Option (Row (Record K V)))) (nodes : List (ℕ × ℕ)) → rows ≡ [] → nodes ≡ [] → IsListed slot_in rows nodes
+pub listed-empty : {K V : Type 0} (slot_in : Row (Record K V) → Option ℕ) (rows : List (Option (Row (Record K V)))) (nodes : List (ℕ × ℕ)) → rows ≡ [] → nodes ≡ [] → HasSlots slot_in rows nodes
 listed-empty slot_in rows nodes re ne = record {
   linked = record { to_slot = λ s p h. (let none = ap (lookup (nat_eq s)) ne in cc); to_place = λ s p h. (let none = ap (λ r. option_and_then slot_in (row_at r p)) re in cc) };
   distinct = subst (λ l. IsDistinct nat_eq (keys_of l)) (sym ne) distinct-none;

@@ -22,13 +22,13 @@ use Rattle.moka_store.proofs.Slots.{slot-row, off-nodes, listed-kept, listed-add
 use Rattle.moka_store.proofs.Timed.{untimed}
 use Rattle.moka_store.proofs.Ties.{read-other, read-same, named-changed, access-kept, access-off, access-of, counted-row, without-row, unlisted-from}
 use Rattle.moka_records.proofs.Lookup.{record_of_key_found, absent_key}
-use Rattle.moka_wheel.specs.Wheel.{Timer}
-use Rattle.moka_store.specs.Listing.{Listing}
-use Rattle.moka_store.specs.Timing.{Timing}
+use Rattle.moka_wheel.specs.TimerWheel.{Timer}
+use Rattle.moka_store.specs.WriteList.{Listing}
+use Rattle.moka_store.specs.Timers.{Timing}
 use Rattle.moka_store.specs.declared.store.Handle.{Handle}
 use Rattle.moka_store.specs.Store.{IsOneEach, IsHandle, ChangesRecord}
-use Rattle.moka_store.specs.StoreRows.{key_in, key_at, passes_at, access_in, access_at, member_in, member_at}
-use Rattle.moka_store.specs.StoreTies.{AreNarrow, KeyIndex, IsListed, IsIndex, IsTied, IsWritten, IsTimed, IsStore, kept_of}
+use Rattle.moka_store.specs.Rows.{key_in, key_at, passes_at, access_in, access_at, member_in, member_at}
+use Rattle.moka_store.specs.StoreTies.{AreNarrow, KeyIndex, HasSlots, IsIndex, IsTied, IsWritten, IsTimed, IsStore, kept_of}
 use Rattle.moka_store.specs.Weights.{IsWeighed}
 use Rattle.moka_records.specs.declared.records.Member.{Member}
 use Rattle.moka_records.specs.declared.records.Record.{Record}
@@ -207,7 +207,7 @@ module _ {K V : Type 0} (eq : K → K → Bool) (laws : IsEquivalence eq) (rows 
       }
 
   module _ (was : Row (Record K V)) (at_is : row_at rows place ≡ Some was) where
-    same-members : (row : Row (Record K V)) → ChangesAt (row_at rows) (row_at new) place (Some row) → access_in row ≡ access_in was → IsListed access_in new nodes
+    same-members : (row : Row (Record K V)) → ChangesAt (row_at rows) (row_at new) place (Some row) → access_in row ≡ access_in was → HasSlots access_in new nodes
     same-members row c e = listed-kept access_in rows nodes t.listed new (read-same access_in (row_at rows) (row_at new) place (Some row) c (e ∙ sym (ap (option_and_then access_in) at_is)))
 
     same-keys : (row : Row (Record K V)) → ChangesAt (row_at rows) (row_at new) place (Some row) → key_in row ≡ key_in was → IsIndex eq (key_at new) index
@@ -219,7 +219,7 @@ module _ {K V : Type 0} (eq : K → K → Bool) (laws : IsEquivalence eq) (rows 
         ∙ sym (ap (λ o. option_map_or member_in o (record { number = 0; counted = 0 })) at_is))
 
     -- a row of the same number and record
-    same-record : (row : Row (Record K V)) → ChangesAt (row_at rows) (row_at new) place (Some row) → row.number ≡ was.number → row.stored ≡ was.stored → {after : List (ℕ × ℕ)} → IsListed access_in new after → IsTied eq new index after
+    same-record : (row : Row (Record K V)) → ChangesAt (row_at rows) (row_at new) place (Some row) → row.number ≡ was.number → row.stored ≡ was.stored → {after : List (ℕ × ℕ)} → HasSlots access_in new after → IsTied eq new index after
     same-record row c number stored listed = record {
       numbered = numbered-after (alters-set t.numbered was row at_is number c);
       named = named-changed (row_at rows) (row_at new) place t.named (Some row) c (λ r e. t.named.same place was r at_is (sym stored ∙ e) ∙ sym number);

@@ -9,11 +9,11 @@ use Rattle.moka_table.proofs.TableCalls.{get-places}
 use Rattle.moka_links.proofs.FinMaps.{option-cases}
 use Rattle.moka_table.specs.declared.table.membership.Membership.{Membership}
 use Rattle.moka_table.specs.RecordTable.{Row, row_at, number_at, ChangesAt, places_of}
-use Rattle.moka_structures.specs.Order.{next_after}
+use Rattle.moka_structures.specs.OrderList.{next_after}
 use Rattle.moka_store.proofs.Nodes.{map-agree, counted-none, counted-found, behind-found, rest-found}
 use Rattle.moka_store.proofs.Slots.{slot-row, node-of, no-node, one-node}
 use Rattle.moka_store.specs.Store.{member_after}
-use Rattle.moka_store.specs.StoreRows.{access_in, member_in, member_at}
+use Rattle.moka_store.specs.Rows.{access_in, member_in, member_at}
 use Rattle.moka_store.specs.StoreTies.{KeyIndex, IsNamed, IsTied}
 use Rattle.moka_records.specs.declared.records.Record.{Record}
 use Rattle.moka_records.specs.Records.{counted_of, without_member}

@@ -12,15 +12,15 @@ use Rattle.moka_links.proofs.FinMaps.{option-cases}
 use Rattle.moka_links.proofs.EntryMaps.{same-map}
 use Rattle.moka_table.proofs.TableMaps.{read-of, made-of, get-map, map-found, alters-set, map-anew}
 use Rattle.moka_table.specs.RecordTable.{Row, row_at, number_at, membership_at, map_of, IsNumbered, ChangesAt}
-use Rattle.moka_wheel.specs.Wheel.{Timer}
+use Rattle.moka_wheel.specs.TimerWheel.{Timer}
 use Rattle.moka_records.proofs.Maps.{itself_ordered}
 use Rattle.moka_store.proofs.Gets.{len-removed, after_remove}
 use Rattle.moka_store.proofs.Nodes.{count-cleared, LeadsTo}
 use Rattle.moka_store.proofs.Slots.{number-of}
 use Rattle.moka_store.specs.Store.{with_timer}
-use Rattle.moka_store.specs.StoreRows.{timer_at, moment_in, timers_of}
+use Rattle.moka_store.specs.Rows.{timer_at, moment_in, timers_of}
 use Rattle.moka_store.specs.StoreTies.{IsTimed}
-use Rattle.moka_store.specs.Timing.{is_slot, timer_for, timer_after}
+use Rattle.moka_store.specs.Timers.{is_slot, timer_for, timer_after}
 use Rattle.moka_records.specs.declared.records.Record.{Record}
 
 -- ---- timers in slots

@@ -7,21 +7,21 @@ use Rattle.std.specs.Option.{option_map, option_and_then}
 use Rattle.std.specs.Prelude.{IfSome, IfNone, slice_get}
 use Rattle.moka_links.proofs.FinMaps.{option-cases}
 use Rattle.moka_table.specs.RecordTable.{Row, row_at, number_at, IsNumbered}
-use Rattle.moka_structures.specs.Order.{next_after}
+use Rattle.moka_structures.specs.OrderList.{next_after}
 use Rattle.moka_store.proofs.Nodes.{in-nodes, node-in, map-agree, any-none, any-found, behind-none, rest-none, rest-found, behind-found, get-map}
 use Rattle.moka_store.proofs.Slots.{number-of, node-of, no-node, one-node}
-use Rattle.moka_store.specs.Listing.{IsCursor, node_past}
+use Rattle.moka_store.specs.WriteList.{IsCursor, node_past}
 use Rattle.moka_store.specs.Store.{number_after, cursor_past}
-use Rattle.moka_store.specs.StoreRows.{written_in, written_at, written_of, cursor_of}
-use Rattle.moka_store.specs.StoreTies.{IsListed}
+use Rattle.moka_store.specs.Rows.{written_in, written_slot_at, written_of, cursor_of}
+use Rattle.moka_store.specs.StoreTies.{HasSlots}
 use Rattle.moka_records.specs.declared.records.Record.{Record}
 use Rattle.moka_records.specs.Records.{is_listed, without_number, number_to_back, entered_by}
 
 -- a row with a slot keeps its number
 abbrev pub KeepsNumbers : {K V : Type 0} → List (Option (Row (Record K V))) → List (Option (Row (Record K V))) → Type 0
-KeepsNumbers rows new = (p : ℕ) → IsSome (written_at rows p) → number_at new p ≡ number_at rows p
+KeepsNumbers rows new = (p : ℕ) → IsSome (written_slot_at rows p) → number_at new p ≡ number_at rows p
 
-module _ {K V : Type 0} (rows new : List (Option (Row (Record K V)))) (nodes : List (ℕ × ℕ)) (l : IsListed written_in rows nodes) (keeps : KeepsNumbers rows new) where
+module _ {K V : Type 0} (rows new : List (Option (Row (Record K V)))) (nodes : List (ℕ × ℕ)) (l : HasSlots written_in rows nodes) (keeps : KeepsNumbers rows new) where
   node-number : (m : ℕ × ℕ) → lookup (nat_eq m.0) nodes ≡ Some m.1 → number_at new m.1 ≡ number_at rows m.1
   node-number m h = keeps m.1 (ap is_some (l.linked.to_slot m.0 m.1 h))
 
@@ -45,7 +45,7 @@ module _ {K V : Type 0} (rows : List (Option (Row (Record K V)))) (nodes : List 
   written-pushed true (Some slot) place number after k some none n =
       ap (map (λ m. number_at rows m.1)) some ∙ map-append (λ m. number_at rows m.1) nodes ((slot, place) ∷ []) ∙ ap (λ x. map (λ m. number_at rows m.1) nodes ++ x ∷ []) n
 
-  module _ (l : IsListed written_in rows nodes) (d : IsNumbered (row_at rows)) (place : ℕ) (row : Row (Record K V)) (at_is : row_at rows place ≡ Some row) where
+  module _ (l : HasSlots written_in rows nodes) (d : IsNumbered (row_at rows)) (place : ℕ) (row : Row (Record K V)) (at_is : row_at rows place ≡ Some row) where
     abbrev numbers : List ℕ
     numbers = map (λ m. number_at rows m.1) nodes
 

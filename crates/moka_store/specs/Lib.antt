@@ -1,7 +1,7 @@
 pub mod Hashing
-pub mod Listing
+pub mod WriteList
 pub mod Store
-pub mod StoreRows
+pub mod Rows
 pub mod StoreTies
-pub mod Timing
+pub mod Timers
 pub mod Weights

@@ -7,12 +7,12 @@ use Rattle.std.specs.Option.{option_map, option_and_then}
 use Rattle.std.specs.Ordering.{nat_cmp}
 use Rattle.moka_table.specs.RecordTable.{Row, row_at, membership_at, IsNumbered, records_of, places_of}
 use Rattle.moka_structures.specs.Linked.{IsLinked}
-use Rattle.moka_structures.specs.Order.{Order}
-use Rattle.moka_wheel.specs.Wheel.{Timer}
-use Rattle.moka_store.specs.Listing.{Listing, IsCursor}
-use Rattle.moka_store.specs.Timing.{Timing}
+use Rattle.moka_structures.specs.OrderList.{Order}
+use Rattle.moka_wheel.specs.TimerWheel.{Timer}
+use Rattle.moka_store.specs.WriteList.{Listing, IsCursor}
+use Rattle.moka_store.specs.Timers.{Timing}
 use Rattle.moka_store.specs.Store.{Kept}
-use Rattle.moka_store.specs.StoreRows.{key_at, access_in, written_in, written_at, timer_at, member_at, written_of, cursor_of, timers_of, row_room}
+use Rattle.moka_store.specs.Rows.{key_at, access_in, written_in, written_slot_at, timer_at, member_at, written_of, cursor_of, timers_of, row_room}
 use Rattle.moka_store.specs.Weights.{IsWeighed}
 use Rattle.moka_records.specs.declared.records.Record.{Record}
 
@@ -32,7 +32,7 @@ pub record IsNamed {K V : Type 0} (at : ℕ → Option (Row (Record K V))) : Typ
       r.number ≡ row.number
 
 -- the slots in the rows are those of the nodes, and none stands twice
-pub record IsListed {K V : Type 0} (slot_in : Row (Record K V) → Option ℕ) (rows : List (Option (Row (Record K V))))
+pub record HasSlots {K V : Type 0} (slot_in : Row (Record K V) → Option ℕ) (rows : List (Option (Row (Record K V))))
     (nodes : List (ℕ × ℕ)) : Type 0 where
   pub linked : IsLinked (λ place. option_and_then slot_in (row_at rows place)) (λ slot. lookup (nat_eq slot) nodes)
   pub distinct : IsDistinct nat_eq (keys_of nodes)
@@ -43,13 +43,13 @@ pub record IsTied {K V : Type 0} (eq : K → K → Bool) (rows : List (Option (R
   pub numbered : IsNumbered (row_at rows)
   pub named : IsNamed (row_at rows)
   pub indexed : IsIndex eq (key_at rows) index
-  pub listed : IsListed access_in rows nodes
+  pub listed : HasSlots access_in rows nodes
 
 -- the nodes of the write list are those of rows, where the list is kept of all members
 pub record IsWritten {K V : Type 0} (rows : List (Option (Row (Record K V)))) (list : Listing) : Type 0 where
-  pub listed : IsListed written_in rows list.nodes
+  pub listed : HasSlots written_in rows list.nodes
   pub cursor : IsCursor list.nodes list.cursor
-  pub all : list.ordered ≡ true → (place : ℕ) → IsSome (membership_at rows place) → IsSome (written_at rows place)
+  pub all : list.ordered ≡ true → (place : ℕ) → IsSome (membership_at rows place) → IsSome (written_slot_at rows place)
 
 -- the slots in the rows are those of the timers, and only members have one
 pub record IsTimed {K V : Type 0} (rows : List (Option (Row (Record K V))))

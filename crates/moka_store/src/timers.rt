@@ -2,9 +2,9 @@
 ghost use Rattle.std.specs.Prelude.{◌≡◌, ◌+◌, ◌<◌, ◌≤◌, ◌&&◌, ◌⊎◌, ℕ, false, OnOk, IfOk, IsOk, IfSome, IfNone, is_some, None, Some, option_map};
 ghost use Rattle.std.specs.FinMap.{empty, get, len};
 ghost use Rattle.moka_records.specs.Time.{moment_of};
-ghost use Rattle.moka_store.specs.Timing.{timer_after};
+ghost use Rattle.moka_store.specs.Timers.{timer_after};
 ghost use Rattle.moka_table.specs.Slots.{IsSlot};
-ghost use Rattle.moka_wheel.specs.Wheel.{Timer};
+ghost use Rattle.moka_wheel.specs.TimerWheel.{Timer};
 
 use moka_records::instant::Instant;
 use moka_wheel::{Due, TimerWheel};
@@ -26,13 +26,13 @@ impl Drop for Timers {
 }
 
 impl Model for Timers {
-    ghost use Rattle.moka_store.specs.Timing.{Timing, timing_code};
+    ghost use Rattle.moka_store.specs.Timers.{Timing, timing_code};
 
     ghost Value = { Timing };
 
     ghost coded = { timing_code };
 
-    ghost use Rattle.moka_store.specs.Timing.{timing_of};
+    ghost use Rattle.moka_store.specs.Timers.{timing_of};
 
     ghost view = { λ a. timing_of a.wheel };
 }

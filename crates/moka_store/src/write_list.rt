@@ -1,8 +1,8 @@
 //! The order of writing, if it is kept, with the cursor of a scan.
 ghost use Rattle.std.specs.Prelude.{◌≡◌, ◌<◌, ◌≤◌, ◌⊎◌, ℕ, false, [], ◌∷◌, ◌++◌, length, OnOk, IfOk, IsOk, IfSome, IfNone, IsSome, is_some, None, Some, nat_eq, slice_get, if◌then◌else◌};
 ghost use Rattle.std.specs.Map.{lookup, remove_entry};
-ghost use Rattle.moka_store.specs.Listing.{node_past, IsCursor};
-ghost use Rattle.moka_structures.specs.Order.{next_after};
+ghost use Rattle.moka_store.specs.WriteList.{node_past, IsCursor};
+ghost use Rattle.moka_structures.specs.OrderList.{next_after};
 ghost use Rattle.moka_table.specs.Slots.{IsSlot};
 
 use moka_structures::OrderList;
@@ -28,11 +28,11 @@ impl Drop for WriteList {
 }
 
 impl Model for WriteList {
-    ghost use Rattle.moka_store.specs.Listing.{Listing};
+    ghost use Rattle.moka_store.specs.WriteList.{Listing};
 
     ghost Value = { Listing };
 
-    ghost use Rattle.moka_store.specs.Listing.{listing_of, IsCursor};
+    ghost use Rattle.moka_store.specs.WriteList.{listing_of, IsCursor};
 
     ghost view = { λ a. listing_of a.list a.cursor };
 

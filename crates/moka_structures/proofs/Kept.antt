@@ -6,7 +6,7 @@ use Rattle.std.specs.FinMap.{FinMap, empty, insert, remove, len}
 use Rattle.std.specs.FinMap as map
 use Rattle.std.specs.Ordering.{nat_cmp}
 use Rattle.moka_links.proofs.FinMaps.{option-cases, get-put, get-taken, get-inserted, len-inserted}
-use Rattle.moka_structures.specs.Kept.{with_kept, AreApart, lesser}
+use Rattle.moka_structures.specs.Older.{with_kept, AreApart, lesser}
 use Rattle.moka_structures.specs.declared.older.Kept.{Kept}
 use Rattle.moka_structures.proofs.Newest.{get-put_other, lowest-alone, swapped, taken-none, taken-put, taken-under}
 use Rattle.moka_structures.proofs.Tickets.{IsLowest, some-lowest}

@@ -11,7 +11,7 @@ use Rattle.std.proofs.lemmas.Map.Entries.{lookup_from_place}
 use Rattle.std.specs.Cmp.{nat_eq_equiv}
 use Rattle.moka_links.proofs.Chains.{no-frees}
 use Rattle.moka_links.proofs.Nodes.{set-keeps, set-other, set-same, values-kept, Detached-detached, Attached-attached}
-use Rattle.moka_structures.specs.Order.{next_after, moved_to_back}
+use Rattle.moka_structures.specs.OrderList.{next_after, moved_to_back}
 use Rattle.moka_structures.specs.Rings.{Ring}
 use Rattle.moka_links.specs.declared.Node.{Node}
 use Rattle.moka_structures.specs.Links.{IsOrder, blank, at, with_behind, with_value, detached, attached, behinds, befores, values, ring_of, walk, member, members_of}

@@ -14,7 +14,7 @@ use Rattle.std.proofs.lemmas.Map.Views.{All-values_from_lookup}
 use Rattle.std.specs.Map.{lookup, remove_entry, keys_of, values_of}
 use Rattle.std.specs.Option.{option_map}
 use Rattle.std.specs.Ordering.{nat_cmp, is_lt}
-use Rattle.moka_structures.specs.Tickets.{items_of, slot_of, IsBelowAll, AreRising, IsTied}
+use Rattle.moka_structures.specs.TicketTable.{items_of, slot_under, IsBelowAll, TicketsRise, IsTicketTable}
 use Rattle.moka_structures.specs.declared.ticket_table.Waiting.{Waiting}
 use Rattle.moka_structures.proofs.Linked.{linked-added, linked-removed}
 
@@ -86,11 +86,11 @@ module _ {T S : Type 0} (m : HashMap ℕ (Waiting T) S) where
   get-items q = get-entry m.entries q
 
   -- an item is out exactly where a slot is kept
-  pub some-slot : (q : ℕ) → IsSome (map.get (items_of m) q) → (s : ℕ) × (slot_of m q ≡ Some s)
+  pub some-slot : (q : ℕ) → IsSome (map.get (items_of m) q) → (s : ℕ) × (slot_under m q ≡ Some s)
   some-slot q h = slot-from (get nat_eq m q) (subst (λ o. IsSome o) (get-items q) h)
 
   -- no item, no slot
-  pub none-slot : (q : ℕ) → (IsSome (map.get (items_of m) q) → ⊥) → slot_of m q ≡ None
+  pub none-slot : (q : ℕ) → (IsSome (map.get (items_of m) q) → ⊥) → slot_under m q ≡ None
   none-slot q h = none-from (get nat_eq m q) (sym (get-items q) ∙ not-some (map.get (items_of m) q) h)
 
 module _ {T S : Type 0} (m n : HashMap ℕ (Waiting T) S) where
@@ -100,11 +100,11 @@ module _ {T S : Type 0} (m n : HashMap ℕ (Waiting T) S) where
 
   module _ (ticket : ℕ) (w : Option (Waiting T)) (updates : (q : ℕ) → get nat_eq n q ≡ cond (nat_eq ticket q) w (get nat_eq m q)) where
     -- the kept slots after one entry changed
-    pub slot-changed : slot_of n ticket ≡ option_map (λ w. w.slot) w
+    pub slot-changed : slot_under n ticket ≡ option_map (λ w. w.slot) w
     slot-changed = ap (option_map (λ w. w.slot)) (updates ticket ∙ cond-true (nat_eq ticket ticket) w (get nat_eq m ticket) (eq-eqb ticket ticket refl))
 
     -- the kept slots of the other tickets
-    pub slot-others : (q : ℕ) → q ≢ ticket → slot_of n q ≡ slot_of m q
+    pub slot-others : (q : ℕ) → q ≢ ticket → slot_under n q ≡ slot_under m q
     slot-others q ne = ap (option_map (λ w. w.slot)) (updates q ∙ cond-false (nat_eq ticket q) w (get nat_eq m q) (ne_eqb ticket q (λ e. ne (sym e))))
 
   -- the items with one more
@@ -126,9 +126,9 @@ below-without t test (m ∷ ms) h = elim (test m.0) as (λ b. IsBelowAll t (cond
 ]
 
 -- they still rise
-pub rising-without : (test : ℕ → Bool) (ms : List (ℕ × ℕ)) → AreRising ms → AreRising (remove_entry test ms)
+pub rising-without : (test : ℕ → Bool) (ms : List (ℕ × ℕ)) → TicketsRise ms → TicketsRise (remove_entry test ms)
 rising-without test [] h = tt
-rising-without test (m ∷ ms) h = elim (test m.0) as (λ b. AreRising (cond b ms (m ∷ remove_entry test ms))) [
+rising-without test (m ∷ ms) h = elim (test m.0) as (λ b. TicketsRise (cond b ms (m ∷ remove_entry test ms))) [
   | true ↦ h.1
   | false ↦ (below-without m.1 test ms h.0, rising-without test ms h.1)
 ]
@@ -139,7 +139,7 @@ below-pushed t [] slot ticket l h = (l, tt)
 below-pushed t (m ∷ ms) slot ticket l h = (h.0, below-pushed t ms slot ticket l h.1)
 
 -- they rise if it is above them all
-rising-pushed : (ms : List (ℕ × ℕ)) (slot ticket : ℕ) → All (λ t. t < ticket) (values_of ms) → AreRising ms → AreRising (ms ++ (slot, ticket) ∷ [])
+rising-pushed : (ms : List (ℕ × ℕ)) (slot ticket : ℕ) → All (λ t. t < ticket) (values_of ms) → TicketsRise ms → TicketsRise (ms ++ (slot, ticket) ∷ [])
 rising-pushed [] slot ticket all h = (tt, tt)
 rising-pushed (m ∷ ms) slot ticket all h =
     (below-pushed m.1 ms slot ticket (all 0 0 (omega arith)) h.0, rising-pushed ms slot ticket (λ k d l. all (suc k) d (omega arith)) h.1)
@@ -150,7 +150,7 @@ below-found t test [] n h e = absurd (let no : None ≡ Some n = e in cc)
 below-found t test (m ∷ ms) n h e = grind (arith, h.0, below-found t test ms n h.1)
 
 -- the first stands before all that a look-up finds
-pub first-least : (ms : List (ℕ × ℕ)) (slot t : ℕ) → slice_get ms 0 ≡ Some (slot, t) → AreRising ms → (test : ℕ → Bool) (n : ℕ) → lookup test ms ≡ Some n → t ≤ n
+pub first-least : (ms : List (ℕ × ℕ)) (slot t : ℕ) → slice_get ms 0 ≡ Some (slot, t) → TicketsRise ms → (test : ℕ → Bool) (n : ℕ) → lookup test ms ≡ Some n → t ≤ n
 first-least [] slot t here h test n e = absurd (let no : None ≡ Some (slot, t) = here in cc)
 first-least (m ∷ ms) slot t here h test n e =
     let same : Some m ≡ Some (slot, t) = here in
@@ -220,7 +220,7 @@ module _ {X : Type 0} where
   no-first m h = no-keys (entries m) (sym (map.len-entries m) ∙ ap len h ∙ len-empty nat_cmp X)
 
 -- the ticket that stands first
-module _ {T S : Type 0} (ms : List (ℕ × ℕ)) (m : HashMap ℕ (Waiting T) S) (tied : IsTied ms m) where
+module _ {T S : Type 0} (ms : List (ℕ × ℕ)) (m : HashMap ℕ (Waiting T) S) (tied : IsTicketTable ms m) where
   -- each member's ticket has an item
   pub member-out : (s t : ℕ) → lookup (nat_eq s) ms ≡ Some t → IsSome (map.get (items_of m) t)
   member-out s t h = item-from (get nat_eq m t) s (tied.linked.to_slot s t h) (get-items m t)
@@ -238,31 +238,31 @@ module _ {T S : Type 0} (ms : List (ℕ × ℕ)) (m : HashMap ℕ (Waiting T) S)
   none-out h = empty-map (items_of m) (λ q. not-some (map.get (items_of m) q) (λ some. let w = out-member q some in no-lookup ms (nat_eq w.0) q h w.1))
 
 -- what the calls leave
-module _ {T S : Type 0} (ms ns : List (ℕ × ℕ)) (m n : HashMap ℕ (Waiting T) S) (tied : IsTied ms m) where
+module _ {T S : Type 0} (ms ns : List (ℕ × ℕ)) (m n : HashMap ℕ (Waiting T) S) (tied : IsTicketTable ms m) where
   -- after `hand_out`
   pub tied-handed : (slot ticket : ℕ) (w : Waiting T) → w.slot ≡ slot → IsDistinct nat_eq (keys_of ms)
       → ((q : ℕ) → IsSome (map.get (items_of m) q) → q < ticket)
       → lookup (nat_eq slot) ms ≡ None → ns ≡ ms ++ (slot, ticket) ∷ [] → ((s : ℕ) → lookup (nat_eq s) ns ≡ cond (nat_eq s slot) (Some ticket) (lookup (nat_eq s) ms))
-      → ((q : ℕ) → get nat_eq n q ≡ cond (nat_eq ticket q) (Some w) (get nat_eq m q)) → IsTied ns n
+      → ((q : ℕ) → get nat_eq n q ≡ cond (nat_eq ticket q) (Some w) (get nat_eq m q)) → IsTicketTable ns n
   tied-handed slot ticket w its d newest free e nodes updates = record {
-    linked = linked-added (slot_of m) (slot_of n) (λ s. lookup (nat_eq s) ms) (λ s. lookup (nat_eq s) ns) tied.linked slot ticket
+    linked = linked-added (slot_under m) (slot_under n) (λ s. lookup (nat_eq s) ms) (λ s. lookup (nat_eq s) ns) tied.linked slot ticket
         (slot-others m n ticket (Some w) updates)
         (none-slot m ticket (λ h. omega (arith, newest ticket h)))
         (slot-changed m n ticket (Some w) updates ∙ ap Some its)
         free nodes;
-    rising = subst AreRising (sym e) (rising-pushed ms slot ticket
+    rising = subst TicketsRise (sym e) (rising-pushed ms slot ticket
         (All-values_from_lookup nat_eq_equiv (λ t. t < ticket) ms d (λ s. if-some (lookup (nat_eq s) ms) (λ t. t < ticket) (λ t h. newest t (member-out ms m tied s t h)))) tied.rising);
   }
 
   -- after `take`
   pub tied-taken : (slot ticket : ℕ) (w : Waiting T) → w.slot ≡ slot → get nat_eq m ticket ≡ Some w
       → ns ≡ remove_entry (nat_eq slot) ms → ((s : ℕ) → lookup (nat_eq s) ns ≡ cond (nat_eq slot s) None (lookup (nat_eq s) ms))
-      → ((q : ℕ) → get nat_eq n q ≡ cond (nat_eq ticket q) None (get nat_eq m q)) → IsTied ns n
+      → ((q : ℕ) → get nat_eq n q ≡ cond (nat_eq ticket q) None (get nat_eq m q)) → IsTicketTable ns n
   tied-taken slot ticket w its found e nodes updates = record {
-    linked = linked-removed (slot_of m) (slot_of n) (λ s. lookup (nat_eq s) ms) (λ s. lookup (nat_eq s) ns) tied.linked slot ticket
+    linked = linked-removed (slot_under m) (slot_under n) (λ s. lookup (nat_eq s) ms) (λ s. lookup (nat_eq s) ns) tied.linked slot ticket
         (slot-others m n ticket None updates)
         (ap (option_map (λ w. w.slot)) found ∙ ap Some its)
         (slot-changed m n ticket None updates)
         nodes;
-    rising = subst AreRising (sym e) (rising-without (nat_eq slot) ms tied.rising);
+    rising = subst TicketsRise (sym e) (rising-without (nat_eq slot) ms tied.rising);
   }

@@ -1,8 +1,8 @@
 pub mod Linked
 pub mod Links
-pub mod Order
+pub mod OrderList
 pub mod Rings
-pub mod Kept
+pub mod Older
 pub mod Newest
-pub mod Pending
-pub mod Tickets
+pub mod Outstanding
+pub mod TicketTable

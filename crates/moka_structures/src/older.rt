@@ -1,7 +1,7 @@
 //! Items under rising tickets, in a table that grows with them, and in a list if it cannot grow.
 ghost use Rattle.std.specs.Prelude.{◌≡◌, ◌==◌, ◌+◌, ◌*◌, ◌<◌, ◌≤◌, ◌↔◌, ℕ, min, not, filter, find, fold, OnOk, IfOk, IfSome, IsOk, IsSome, IsNone, None, Some, option_map, vec_len, vec_capacity};
 ghost use Rattle.std.specs.FinMap as map;
-ghost use Rattle.moka_structures.specs.Kept.{lesser};
+ghost use Rattle.moka_structures.specs.Older.{lesser};
 
 use crate::ticket_table::TicketTable;
 use std::alloc::{AllocError, Global};
@@ -34,13 +34,13 @@ impl<T: Copy> Drop for Older<T> {
 
 impl<T: Copy> Model for Older<T> {
     ghost use Rattle.std.specs.Prelude.{◌-◌, vec_capacity, vec_len};
-    ghost use Rattle.moka_structures.specs.Pending.{Pending, pending_code};
+    ghost use Rattle.moka_structures.specs.Outstanding.{Pending, pending_code};
 
     ghost Value = { Pending T };
 
     ghost coded = { pending_code T.code };
 
-    ghost use Rattle.moka_structures.specs.Kept.{with_kept, AreApart};
+    ghost use Rattle.moka_structures.specs.Older.{with_kept, AreApart};
 
     ghost view = { λ a.
         record { items = with_kept a.kept.items a.table.items; room = vec_capacity a.kept - vec_len a.kept } };

@@ -4,7 +4,7 @@ ghost use Rattle.std.specs.Map.{lookup, remove_entry, keys_of};
 ghost use Rattle.std.specs.List.{IsDistinct};
 ghost use Rattle.moka_links.specs.Links.{KeepsCapacity};
 ghost use Rattle.moka_structures.specs.Links.{at, detached, attached, with_behind, with_value};
-ghost use Rattle.moka_structures.specs.Order.{moved_to_back, next_after};
+ghost use Rattle.moka_structures.specs.OrderList.{moved_to_back, next_after};
 
 use moka_links::{Node, attach, detach};
 use std::alloc::{AllocError, Global};
@@ -101,7 +101,7 @@ impl<T: Copy> Drop for OrderList<T> {
 
 impl<T: Copy> Model for OrderList<T> {
     ghost use Rattle.std.specs.Prelude.{◌-◌, ◌^◌, min, vec_capacity};
-    ghost use Rattle.moka_structures.specs.Order.{Order, order_code};
+    ghost use Rattle.moka_structures.specs.OrderList.{Order, order_code};
 
     ghost Value = { Order T };
 

@@ -33,7 +33,7 @@ impl<T: Copy> Drop for Outstanding<T> {
 }
 
 impl<T: Copy> Model for Outstanding<T> {
-    ghost use Rattle.moka_structures.specs.Pending.{Pending, pending_code};
+    ghost use Rattle.moka_structures.specs.Outstanding.{Pending, pending_code};
 
     ghost Value = { Pending T };
 

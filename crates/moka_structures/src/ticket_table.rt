@@ -33,17 +33,17 @@ impl<T: Copy> Drop for TicketTable<T> {
 impl<T: Copy> Model for TicketTable<T> {
     ghost use Rattle.std.specs.Prelude.{min};
     ghost use Rattle.std.specs.HashMap.{spare};
-    ghost use Rattle.moka_structures.specs.Pending.{Pending, pending_code};
+    ghost use Rattle.moka_structures.specs.Outstanding.{Pending, pending_code};
 
     ghost Value = { Pending T };
 
     ghost coded = { pending_code T.code };
 
-    ghost use Rattle.moka_structures.specs.Tickets.{items_of, IsTied};
+    ghost use Rattle.moka_structures.specs.TicketTable.{items_of, IsTicketTable};
 
     ghost view = { λ a. record { items = items_of a.waiting; room = min a.order.room (spare a.waiting) } };
 
-    ghost invariant = { λ a. IsTied a.order.members a.waiting };
+    ghost invariant = { λ a. IsTicketTable a.order.members a.waiting };
 }
 
 impl<T: Copy> TicketTable<T> {

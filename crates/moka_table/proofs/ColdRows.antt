@@ -12,7 +12,7 @@ use Rattle.moka_records.specs.RecordParts.{joined, expiry_of}
 use Rattle.moka_records.specs.declared.instant.Instant.{Instant}
 use Rattle.moka_table.specs.declared.table.membership.Membership.{Membership}
 use Rattle.moka_table.specs.RecordTable.{Row, Table, IsNumbered, row_at, number_at, stored_at, membership_at, stored_if, find_at, with_stored, ChangesAt, ChangesRow, RecountsRow}
-use Rattle.moka_table.specs.ColdParts.{cold_at, nothing, whole, whole_rows, table_of, IsBeside}
+use Rattle.moka_table.specs.Rows.{cold_at, nothing, whole, whole_rows, table_of, IsBeside}
 use Rattle.moka_table.specs.Slots.{counted_as}
 use Rattle.moka_table.specs.States.{touched, rewritten}
 use Rattle.moka_table.specs.Updates.{updated}

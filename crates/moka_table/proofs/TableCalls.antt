@@ -9,7 +9,7 @@ use Rattle.std.specs.FinMap.{FinMap, empty, get, insert, remove}
 use Rattle.std.specs.Option.{option_map, option_and_then}
 use Rattle.std.specs.Ordering.{nat_cmp}
 use Rattle.moka_table.specs.declared.table.membership.Membership.{Membership}
-use Rattle.moka_table.specs.RecordTable.{Row, altered, row_at, stored_at, membership_at, stored_if, find_at, with_stored, counted_in, records_of, counted_of, places_of, IsNumbered, ChangesAt}
+use Rattle.moka_table.specs.RecordTable.{Row, altered, row_at, stored_at, membership_at, stored_if, find_at, with_stored, counted_in, records_of, counts_of, places_of, IsNumbered, ChangesAt}
 use Rattle.moka_links.proofs.FinMaps.{option-cases}
 use Rattle.moka_table.proofs.TableMaps.{row_at-within, some_is, read-of, altered-same, get-map, map-found, alters-row, alters-set, alters-added, numbered-after, map-after, map-same}
 
@@ -17,17 +17,17 @@ use Rattle.moka_table.proofs.TableMaps.{row_at-within, some_is, read-of, altered
 pub record Shows {R : Type 0} (rows : List (Option (Row R))) (records : FinMap nat_cmp R) (counted places : FinMap nat_cmp ℕ) : Type 0 where
   pub numbered : IsNumbered (row_at rows)
   pub records_is : records_of rows ≡ records
-  pub counted_is : counted_of rows ≡ counted
+  pub counted_is : counts_of rows ≡ counted
   pub places_is : places_of rows ≡ places
 
 module _ {R : Type 0} where
   -- the maps of no rows
   pub shows-empty : (rows : List (Option (Row R))) → rows ≡ [] → Shows rows empty empty empty
-  unfolding records_of counted_of places_of
+  unfolding records_of counts_of places_of
   shows-empty rows e = record {
     numbered = record { same = λ p q a b pe qe s. let bad : None ≡ Some a = sym (ap (λ r. row_at r p) e) ∙ pe in cc };
     records_is = ap records_of e;
-    counted_is = ap counted_of e;
+    counted_is = ap counts_of e;
     places_is = ap places_of e;
   }
 
@@ -35,8 +35,8 @@ module _ {R : Type 0} (rows new : List (Option (Row R))) (place : ℕ) (d : IsNu
   -- a new row with a record
   pub shows-inserted : (number : ℕ) (stored : R) → row_at rows place ≡ None → get (places_of rows) number ≡ None
       → ChangesAt (row_at rows) (row_at new) place (Some (record { number = number; stored = Some stored; membership = None; timer = None }))
-      → Shows new (insert (records_of rows) number stored) (counted_of rows) (insert (places_of rows) number place)
-  unfolding records_of counted_of places_of
+      → Shows new (insert (records_of rows) number stored) (counts_of rows) (insert (places_of rows) number place)
+  unfolding records_of counts_of places_of
   shows-inserted number stored vacant fresh c =
       let a = alters-added d (record { number = number; stored = Some stored; membership = None; timer = None }) vacant fresh c in
       record {
@@ -49,8 +49,8 @@ module _ {R : Type 0} (rows new : List (Option (Row R))) (place : ℕ) (d : IsNu
   module _ (was : Row R) (at_is : row_at rows place ≡ Some was) where
     -- another row of the same number
     shows-changed : (row : Row R) → row.number ≡ was.number → ChangesAt (row_at rows) (row_at new) place (Some row) → (records : FinMap nat_cmp R) (counted : FinMap nat_cmp ℕ)
-        → altered (records_of rows) was.number row.stored ≡ records → altered (counted_of rows) was.number (counted_in row) ≡ counted → Shows new records counted (places_of rows)
-    unfolding records_of counted_of places_of
+        → altered (records_of rows) was.number row.stored ≡ records → altered (counts_of rows) was.number (counted_in row) ≡ counted → Shows new records counted (places_of rows)
+    unfolding records_of counts_of places_of
     shows-changed row number c records counted records_is counted_is =
         let a = alters-set d was row at_is number c in
         record {
@@ -64,39 +64,39 @@ module _ {R : Type 0} (rows new : List (Option (Row R))) (place : ℕ) (d : IsNu
     unfolding records_of
     records-stay = altered-same (records_of rows) was.number was.stored (get-map (λ _ row. row.stored) rows d place was at_is)
 
-    counted-stay : altered (counted_of rows) was.number (counted_in was) ≡ counted_of rows
-    unfolding counted_of
-    counted-stay = altered-same (counted_of rows) was.number (counted_in was) (get-map (λ _ row. counted_in row) rows d place was at_is)
+    counted-stay : altered (counts_of rows) was.number (counted_in was) ≡ counts_of rows
+    unfolding counts_of
+    counted-stay = altered-same (counts_of rows) was.number (counted_in was) (get-map (λ _ row. counted_in row) rows d place was at_is)
 
     -- another record in a row
     pub shows-stored : (stored : R) → ChangesAt (row_at rows) (row_at new) place (Some (record was { stored = Some stored }))
-        → Shows new (insert (records_of rows) was.number stored) (counted_of rows) (places_of rows)
+        → Shows new (insert (records_of rows) was.number stored) (counts_of rows) (places_of rows)
     shows-stored stored c = shows-changed (record was { stored = Some stored }) refl c _ _ refl counted-stay
 
     -- the record leaves
     pub shows-taken : ChangesAt (row_at rows) (row_at new) place (Some (record was { stored = None }))
-        → Shows new (remove (records_of rows) was.number) (counted_of rows) (places_of rows)
+        → Shows new (remove (records_of rows) was.number) (counts_of rows) (places_of rows)
     shows-taken c = shows-changed (record was { stored = None }) refl c _ _ refl counted-stay
 
     -- a membership with this weight
     pub shows-counted : (m : Membership) → ChangesAt (row_at rows) (row_at new) place (Some (record was { membership = Some m }))
-        → Shows new (records_of rows) (insert (counted_of rows) was.number m.counted) (places_of rows)
+        → Shows new (records_of rows) (insert (counts_of rows) was.number m.counted) (places_of rows)
     shows-counted m c = shows-changed (record was { membership = Some m }) refl c _ _ records-stay refl
 
     -- no membership
     pub shows-uncounted : ChangesAt (row_at rows) (row_at new) place (Some (record was { membership = None }))
-        → Shows new (records_of rows) (remove (counted_of rows) was.number) (places_of rows)
+        → Shows new (records_of rows) (remove (counts_of rows) was.number) (places_of rows)
     shows-uncounted c = shows-changed (record was { membership = None }) refl c _ _ records-stay refl
 
     -- another timer
     pub shows-timed : (timer : Option ℕ) → ChangesAt (row_at rows) (row_at new) place (Some (record was { timer = timer }))
-        → Shows new (records_of rows) (counted_of rows) (places_of rows)
+        → Shows new (records_of rows) (counts_of rows) (places_of rows)
     shows-timed timer c = shows-changed (record was { timer = timer }) refl c _ _ records-stay counted-stay
 
     -- a row with no record and no membership goes
     pub shows-forgotten : was.stored ≡ None → was.membership ≡ None → ChangesAt (row_at rows) (row_at new) place None
-        → Shows new (records_of rows) (counted_of rows) (remove (places_of rows) was.number)
-    unfolding records_of counted_of places_of
+        → Shows new (records_of rows) (counts_of rows) (remove (places_of rows) was.number)
+    unfolding records_of counts_of places_of
     shows-forgotten bare alone c =
         let a = alters-row d was None at_is (λ row e. cc) c in
         record {

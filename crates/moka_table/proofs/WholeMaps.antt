@@ -6,8 +6,8 @@ use Rattle.moka_records.specs.declared.record_ref.Cold.{Cold}
 use Rattle.moka_records.specs.declared.record_ref.Front.{Front}
 use Rattle.moka_records.specs.declared.records.Record.{Record}
 use Rattle.moka_table.specs.declared.table.membership.Membership.{Membership}
-use Rattle.moka_table.specs.RecordTable.{Row, Table, IsNumbered, ChangesAt, row_at, number_at, stored_at, membership_at, records_of, counted_of, places_of, ChangesRow}
-use Rattle.moka_table.specs.ColdParts.{IsBeside, whole_rows}
+use Rattle.moka_table.specs.RecordTable.{Row, Table, IsNumbered, ChangesAt, row_at, number_at, stored_at, membership_at, records_of, counts_of, places_of, ChangesRow}
+use Rattle.moka_table.specs.Rows.{IsBeside, whole_rows}
 use Rattle.moka_table.specs.Slots.{counted_as}
 use Rattle.moka_table.proofs.TableMaps.{some_is}
 use Rattle.moka_table.proofs.TableCalls.{Shows, shows-inserted, shows-taken, shows-counted, shows-uncounted, shows-timed, stored_row, member_row}
@@ -16,7 +16,7 @@ use Rattle.moka_table.proofs.ColdRows.{whole-step, whole-member, whole-recounts,
 module _ {K V : Type 0} (rows new : List (Option (Row (Front K V)))) (colds : List Cold) (place : ℕ) (d : IsNumbered (row_at (whole_rows rows colds))) where
   -- the record leaves
   pub whole-taken : IsSome (stored_at (whole_rows rows colds) place) → ChangesRow rows new place (λ row. record row { stored = None })
-      → Shows (whole_rows new colds) (remove (records_of (whole_rows rows colds)) (number_at (whole_rows rows colds) place)) (counted_of (whole_rows rows colds)) (places_of (whole_rows rows colds))
+      → Shows (whole_rows new colds) (remove (records_of (whole_rows rows colds)) (number_at (whole_rows rows colds) place)) (counts_of (whole_rows rows colds)) (places_of (whole_rows rows colds))
   whole-taken there c =
       let w = stored_row (whole_rows rows colds) place there in
       let step = whole-step rows colds place new (λ row. record row { stored = None }) (λ row. record row { stored = None }) (λ cold row. refl) c in
@@ -24,7 +24,7 @@ module _ {K V : Type 0} (rows new : List (Option (Row (Front K V)))) (colds : Li
 
   -- no membership
   pub whole-uncounted : IsSome (row_at (whole_rows rows colds) place) → ChangesRow rows new place (λ row. record row { membership = None })
-      → Shows (whole_rows new colds) (records_of (whole_rows rows colds)) (remove (counted_of (whole_rows rows colds)) (number_at (whole_rows rows colds) place)) (places_of (whole_rows rows colds))
+      → Shows (whole_rows new colds) (records_of (whole_rows rows colds)) (remove (counts_of (whole_rows rows colds)) (number_at (whole_rows rows colds) place)) (places_of (whole_rows rows colds))
   whole-uncounted there c =
       let w = some_is (row_at (whole_rows rows colds) place) there in
       let step = whole-step rows colds place new (λ row. record row { membership = None }) (λ row. record row { membership = None }) (λ cold row. refl) c in
@@ -32,7 +32,7 @@ module _ {K V : Type 0} (rows new : List (Option (Row (Front K V)))) (colds : Li
 
   -- another timer
   pub whole-timed : (timer : Option ℕ) → IsSome (row_at (whole_rows rows colds) place) → ChangesRow rows new place (λ row. record row { timer = timer })
-      → Shows (whole_rows new colds) (records_of (whole_rows rows colds)) (counted_of (whole_rows rows colds)) (places_of (whole_rows rows colds))
+      → Shows (whole_rows new colds) (records_of (whole_rows rows colds)) (counts_of (whole_rows rows colds)) (places_of (whole_rows rows colds))
   whole-timed timer there c =
       let w = some_is (row_at (whole_rows rows colds) place) there in
       let step = whole-step rows colds place new (λ row. record row { timer = timer }) (λ row. record row { timer = timer }) (λ cold row. refl) c in
@@ -41,7 +41,7 @@ module _ {K V : Type 0} (rows new : List (Option (Row (Front K V)))) (colds : Li
 module _ {K V : Type 0} (table : Table (Front K V)) (colds : List Cold) (fit most place : ℕ) (b : IsBeside table colds fit most) (cold : Cold) (read : cold ≡ get_or colds place cold) where
   -- a membership, with its weight
   pub whole-counted : (new : List (Option (Row (Front K V)))) (m : Membership) → IsSome (row_at (whole_rows table.rows colds) place) → ChangesRow table.rows new place (λ row. record row { membership = Some (counted_as 0 m) })
-      → Shows (whole_rows new (set colds place (record cold { counted = m.counted }))) (records_of (whole_rows table.rows colds)) (insert (counted_of (whole_rows table.rows colds)) (number_at (whole_rows table.rows colds) place) m.counted) (places_of (whole_rows table.rows colds))
+      → Shows (whole_rows new (set colds place (record cold { counted = m.counted }))) (records_of (whole_rows table.rows colds)) (insert (counts_of (whole_rows table.rows colds)) (number_at (whole_rows table.rows colds) place) m.counted) (places_of (whole_rows table.rows colds))
   whole-counted new m there c =
       let w = some_is (row_at (whole_rows table.rows colds) place) there in
       let within = row_within table colds fit most b place there in
@@ -50,7 +50,7 @@ module _ {K V : Type 0} (table : Table (Front K V)) (colds : List Cold) (fit mos
 
   -- another weight of a member
   pub whole-recounted : (weight : ℕ) → IsSome (membership_at (whole_rows table.rows colds) place)
-      → Shows (whole_rows table.rows (set colds place (record cold { counted = weight }))) (records_of (whole_rows table.rows colds)) (insert (counted_of (whole_rows table.rows colds)) (number_at (whole_rows table.rows colds) place) weight) (places_of (whole_rows table.rows colds))
+      → Shows (whole_rows table.rows (set colds place (record cold { counted = weight }))) (records_of (whole_rows table.rows colds)) (insert (counts_of (whole_rows table.rows colds)) (number_at (whole_rows table.rows colds) place) weight) (places_of (whole_rows table.rows colds))
   whole-recounted weight there =
       let w = member_row (whole_rows table.rows colds) place there in
       let within = member_within table colds fit most b place there in
@@ -61,10 +61,10 @@ module _ {K V : Type 0} (table : Table (Front K V)) (colds : List Cold) (fit mos
     (changes : ChangesAt (row_at table.rows) (row_at new) place (Some (record { number = stored.number; stored = Some front; membership = None; timer = None }))) (vacant : row_at table.rows place ≡ None) (fresh : get (places_of (whole_rows table.rows colds)) stored.number ≡ None) where
   -- a new record behind all
   pub whole-inserted_last : place ≡ length colds
-      → Shows (whole_rows new (colds ++ cold ∷ [])) (insert (records_of (whole_rows table.rows colds)) stored.number stored) (counted_of (whole_rows table.rows colds)) (insert (places_of (whole_rows table.rows colds)) stored.number place)
+      → Shows (whole_rows new (colds ++ cold ∷ [])) (insert (records_of (whole_rows table.rows colds)) stored.number stored) (counts_of (whole_rows table.rows colds)) (insert (places_of (whole_rows table.rows colds)) stored.number place)
   whole-inserted_last last = shows-inserted _ _ place b.numbered _ stored (none_whole table.rows colds place vacant) fresh (inserted-last table.rows new colds place stored front cold joined_is changes last)
 
   -- a new record at a place that there is
   pub whole-inserted_within : place < length colds
-      → Shows (whole_rows new (set colds place cold)) (insert (records_of (whole_rows table.rows colds)) stored.number stored) (counted_of (whole_rows table.rows colds)) (insert (places_of (whole_rows table.rows colds)) stored.number place)
+      → Shows (whole_rows new (set colds place cold)) (insert (records_of (whole_rows table.rows colds)) stored.number stored) (counts_of (whole_rows table.rows colds)) (insert (places_of (whole_rows table.rows colds)) stored.number place)
   whole-inserted_within within = shows-inserted _ _ place b.numbered _ stored (none_whole table.rows colds place vacant) fresh (inserted-within table.rows new colds place stored front cold joined_is changes within)

@@ -1,4 +1,4 @@
-pub mod ColdParts
+pub mod Rows
 pub mod RecordTable
 pub mod Slots
 pub mod States

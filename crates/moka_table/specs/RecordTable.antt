@@ -130,8 +130,8 @@ module _ {R : Type 0} where
   records_of rows = map_of (λ _ row. row.stored) rows
 
   -- the counted weight of each member, by number
-  unfoldable pub counted_of : List (Option (Row R)) → FinMap nat_cmp ℕ
-  counted_of rows = map_of (λ _ row. counted_in row) rows
+  unfoldable pub counts_of : List (Option (Row R)) → FinMap nat_cmp ℕ
+  counts_of rows = map_of (λ _ row. counted_in row) rows
 
   -- the place of each number that has a row
   unfoldable pub places_of : List (Option (Row R)) → FinMap nat_cmp ℕ

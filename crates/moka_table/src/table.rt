@@ -4,7 +4,7 @@ ghost use Rattle.std.specs.FinMap as map;
 ghost use Rattle.std.specs.Option.{option_map, option_and_then};
 ghost use Rattle.moka_records.specs.declared.records.Record.{Record};
 ghost use Rattle.moka_table.specs.declared.table.membership.Membership.{Membership};
-ghost use Rattle.moka_table.specs.RecordTable.{IsNumbered, row_at, number_at, stored_at, membership_at, find_at, ChangesAt, ChangesRow, RecountsRow, with_stored, records_of, counted_of, places_of};
+ghost use Rattle.moka_table.specs.RecordTable.{IsNumbered, row_at, number_at, stored_at, membership_at, find_at, ChangesAt, ChangesRow, RecountsRow, with_stored, records_of, counts_of, places_of};
 ghost use Rattle.moka_table.specs.Slots.{IsSlot, HasSlots};
 ghost use Rattle.moka_table.specs.Updates.{updated};
 
@@ -59,7 +59,7 @@ impl<K, V> Model for RecordTable<K, V> {
     ghost use Rattle.moka_records.specs.RecordParts.{record_code};
     ghost use Rattle.moka_records.specs.declared.records.Record.{Record};
     ghost use Rattle.moka_table.specs.RecordTable.{Table, table_code};
-    ghost use Rattle.moka_table.specs.ColdParts.{IsBeside, table_of};
+    ghost use Rattle.moka_table.specs.Rows.{IsBeside, table_of};
 
     ghost Value = { Table (Record K V) };
 
@@ -75,7 +75,7 @@ impl<K, V> RecordTable<K, V> {
     pub fn new(alloc: Global) -> Self
         ensures rows { result.rows ≡ [] }
         ensures records { records_of result.rows ≡ map.empty }
-        ensures counted { counted_of result.rows ≡ map.empty }
+        ensures counted { counts_of result.rows ≡ map.empty }
         ensures places { places_of result.rows ≡ map.empty }
         ensures room { result.room ≡ 0 }
     {
@@ -144,7 +144,7 @@ impl<K, V> RecordTable<K, V> {
             (row_at self.new.rows) result
             (Some (record { number = stored.number; stored = Some stored; membership = None; timer = None })) }
         ensures records { records_of self.new.rows ≡ map.insert (records_of self.old.rows) stored.number stored }
-        ensures counted { counted_of self.new.rows ≡ counted_of self.old.rows }
+        ensures counted { counts_of self.new.rows ≡ counts_of self.old.rows }
         ensures places { places_of self.new.rows ≡ map.insert (places_of self.old.rows) stored.number result }
         ensures len { count_by is_some self.new.rows ≡ count_by is_some self.old.rows + 1 }
         ensures room { self.old.room ≡ self.new.room + 1 }
@@ -261,7 +261,7 @@ impl<K, V> RecordTable<K, V> {
         ensures changes { ChangesRow self.old.rows self.new.rows place (λ row. record row { stored = None }) }
         ensures records { records_of self.new.rows ≡ map.remove (records_of self.old.rows)
             (number_at self.old.rows place) }
-        ensures counted { counted_of self.new.rows ≡ counted_of self.old.rows }
+        ensures counted { counts_of self.new.rows ≡ counts_of self.old.rows }
         ensures places { places_of self.new.rows ≡ places_of self.old.rows }
         ensures len { count_by is_some self.new.rows ≡ count_by is_some self.old.rows }
         ensures room { self.new.room ≡ self.old.room }
@@ -303,7 +303,7 @@ impl<K, V> RecordTable<K, V> {
         requires { IsSome (membership_at self.old.rows place) }
         ensures changes { RecountsRow self.old.rows self.new.rows place weight }
         ensures records { records_of self.new.rows ≡ records_of self.old.rows }
-        ensures counted { counted_of self.new.rows ≡ map.insert (counted_of self.old.rows)
+        ensures counted { counts_of self.new.rows ≡ map.insert (counts_of self.old.rows)
             (number_at self.old.rows place) weight }
         ensures places { places_of self.new.rows ≡ places_of self.old.rows }
         ensures len { count_by is_some self.new.rows ≡ count_by is_some self.old.rows }
@@ -321,7 +321,7 @@ impl<K, V> RecordTable<K, V> {
         ensures changes { ChangesRow self.old.rows self.new.rows place
             (λ row. record row { membership = Some membership }) }
         ensures records { records_of self.new.rows ≡ records_of self.old.rows }
-        ensures counted { counted_of self.new.rows ≡ map.insert (counted_of self.old.rows)
+        ensures counted { counts_of self.new.rows ≡ map.insert (counts_of self.old.rows)
             (number_at self.old.rows place) membership.counted }
         ensures places { places_of self.new.rows ≡ places_of self.old.rows }
         ensures len { count_by is_some self.new.rows ≡ count_by is_some self.old.rows }
@@ -341,7 +341,7 @@ impl<K, V> RecordTable<K, V> {
         ensures old { result ≡ membership_at self.old.rows place }
         ensures changes { ChangesRow self.old.rows self.new.rows place (λ row. record row { membership = None }) }
         ensures records { records_of self.new.rows ≡ records_of self.old.rows }
-        ensures counted { counted_of self.new.rows ≡ map.remove (counted_of self.old.rows)
+        ensures counted { counts_of self.new.rows ≡ map.remove (counts_of self.old.rows)
             (number_at self.old.rows place) }
         ensures places { places_of self.new.rows ≡ places_of self.old.rows }
         ensures len { count_by is_some self.new.rows ≡ count_by is_some self.old.rows }
@@ -361,7 +361,7 @@ impl<K, V> RecordTable<K, V> {
         ensures slot { IsSlot result }
         ensures changes { ChangesRow self.old.rows self.new.rows place (λ row. record row { timer = timer }) }
         ensures records { records_of self.new.rows ≡ records_of self.old.rows }
-        ensures counted { counted_of self.new.rows ≡ counted_of self.old.rows }
+        ensures counted { counts_of self.new.rows ≡ counts_of self.old.rows }
         ensures places { places_of self.new.rows ≡ places_of self.old.rows }
         ensures len { count_by is_some self.new.rows ≡ count_by is_some self.old.rows }
         ensures room { self.new.room ≡ self.old.room }
@@ -379,7 +379,7 @@ impl<K, V> RecordTable<K, V> {
             ≡ Some (record { number = number_at self.old.rows place; stored = None; membership = None; timer = None }) }
         ensures changes { ChangesAt (row_at self.old.rows) (row_at self.new.rows) place None }
         ensures records { records_of self.new.rows ≡ records_of self.old.rows }
-        ensures counted { counted_of self.new.rows ≡ counted_of self.old.rows }
+        ensures counted { counts_of self.new.rows ≡ counts_of self.old.rows }
         ensures places { places_of self.new.rows ≡ map.remove (places_of self.old.rows)
             (number_at self.old.rows place) }
         ensures len { count_by is_some self.new.rows + 1 ≡ count_by is_some self.old.rows }

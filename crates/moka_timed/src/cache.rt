@@ -16,7 +16,7 @@ ghost use Rattle.moka_engine.specs.Looks.{CanHandOutValue};
 ghost use Rattle.moka_parts.specs.Counters.{after_look_up};
 ghost use Rattle.moka_records.specs.Hashing.{key_hash};
 ghost use Rattle.moka_cache.specs.Keyed.{CanNotify, Gets, Inserts, IsOfClone, IsOfInsert, Removes};
-ghost use Rattle.moka_cache.specs.Saved.{HasOnlyMembers};
+ghost use Rattle.moka_cache.specs.Saves.{HasOnlyMembers};
 ghost use Rattle.moka_timed.specs.Moments.{AtItsMoment, AtItsOnlyMoment, AtAnyMoment};
 ghost use Rattle.moka_calls.specs.Synchronous.{fresh, Makes, meaning_of, Just, own_run, removed, invalidated, taken_out, GetsWith, GetsWithIfMade, GetsWithIfNoError};
 

@@ -3,10 +3,10 @@ ghost use Rattle.std.specs.Prelude.{◌≡◌, ◌∷◌, ◌++◌, [], Bool, fa
 ghost use Rattle.std.specs.Vec.Iter.{into_iter_items};
 ghost use Rattle.moka_parts.specs.State.{is_disabled};
 ghost use Rattle.moka_types.specs.declared.calls.Reply.TheVariants as reply;
-ghost use Rattle.moka_engine.specs.Snapshots.{scene_of};
+ghost use Rattle.moka_engine.specs.Snapshot.{scene_of};
 ghost use Rattle.moka_engine.specs.parts.Restored.{Restored};
 ghost use Rattle.moka_records.specs.Hashing.{key_hash};
-ghost use Rattle.moka_cache.specs.Saved.{AddsOnly, HasOnlyMembers, AreSaved, AreThere, IsRestored, PutsBack, PutsManyBack, TakesOnlyExpired};
+ghost use Rattle.moka_cache.specs.Saves.{AddsOnly, HasOnlyMembers, AreSaved, AreThere, IsRestored, PutsBack, PutsManyBack, TakesOnlyExpired};
 ghost use Rattle.moka_timed.specs.Moments.{AtItsMoment};
 ghost use Rattle.moka_calls.specs.Synchronous.{Just, Makes, meaning_of, own_run};
 ghost use Rattle.moka_cache.specs.Unsent.{HidesNoMore};

@@ -8,7 +8,7 @@ use Rattle.moka_engine.specs.Records.{Records}
 use Rattle.moka_engine.specs.State.{State, Settings}
 use Rattle.moka_engine.specs.parts.Restored.{Restored}
 use Rattle.moka_engine.proofs.Maps.{nothing_at}
-use Rattle.moka_cache.specs.Saved.{AddsOnly, IsOfItem, IsRestored, WeighAtMost, has_expired}
+use Rattle.moka_cache.specs.Saves.{AddsOnly, IsOfItem, IsRestored, WeighAtMost, has_expired}
 use Rattle.moka_cache.specs.Unsent.{HidesNoMore}
 use Rattle.moka_timed_uses.specs.Restarted.{AreAmong, AreBack, ArePutBack}
 

@@ -8,7 +8,7 @@ use Rattle.moka_engine.specs.Runs.{Engine}
 use Rattle.moka_engine.specs.State.{Meaning}
 use Rattle.moka_engine.specs.parts.Restored.{Restored}
 use Rattle.moka_cache.specs.Limits.{SetNoCapacity}
-use Rattle.moka_cache.specs.Saved.{PutsAllBack, PutsBack}
+use Rattle.moka_cache.specs.Saves.{PutsAllBack, PutsBack}
 use Rattle.moka_cache.specs.Synchronous.{Posts}
 use Rattle.moka_cache.proofs.Limits.{keeps_limits}
 

@@ -11,7 +11,7 @@ use Rattle.moka_engine.specs.Config.{Config, default_config}
 use Rattle.moka_engine.specs.Runs.{Engine}
 use Rattle.moka_engine.specs.State.{State, Meaning, is_disabled}
 use Rattle.moka_engine.specs.parts.Restored.{Restored}
-use Rattle.moka_cache.specs.Saved.{AddsOnly, AreThere, IsOfItem, IsRestored, IsRoomyFor, PutsAllBack, TakesOnlyExpired, has_expired}
+use Rattle.moka_cache.specs.Saves.{AddsOnly, AreThere, IsOfItem, IsRestored, IsRoomyFor, PutsAllBack, TakesOnlyExpired, has_expired}
 use Rattle.moka_cache.specs.Synchronous.{Synchronous, Just, Made, Makes, own_run}
 use Rattle.moka_cache.specs.Unsent.{HidesNoMore}
 use Rattle.moka_restore_laws.specs.Again.{AnswerAlike}

@@ -2,9 +2,9 @@
 ghost use Rattle.std.specs.Prelude.{◌≡◌, ◌≤◌, false, length, IfOk, List, None, Some};
 ghost use Rattle.std.specs.Duration.{as_nanos};
 ghost use Rattle.moka_engine.specs.parts.Instant.{Instant};
-ghost use Rattle.moka_engine.specs.Snapshots.{scene_of};
+ghost use Rattle.moka_engine.specs.Snapshot.{scene_of};
 ghost use Rattle.moka_engine.specs.parts.Restored.{Restored};
-ghost use Rattle.moka_cache.specs.Saved.{HasOnlyMembers, AreSaved};
+ghost use Rattle.moka_cache.specs.Saves.{HasOnlyMembers, AreSaved};
 ghost use Rattle.moka_cache.specs.Laws.{anytime};
 ghost use Rattle.moka_timed_uses.specs.Restarted.{AreAmong, AreBack, AreBegunAgain, AreHandedOver, ArePutBack, AreUsedAlike, AtSecond, Runs, idling, sessions_meaning};
 

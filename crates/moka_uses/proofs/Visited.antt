@@ -23,7 +23,7 @@ use Rattle.moka_cache.specs.parts.Op.TheVariants.{Nop, Put, Remove}
 use Rattle.moka_cache.specs.parts.CacheEntry.{CacheEntry}
 use Rattle.moka_cache.specs.parts.GetWithRefused.{GetWithRefused}
 use Rattle.moka_cache.specs.parts.GetWithRefused.TheVariants.{Lookup, Insert}
-use Rattle.moka_cache.specs.Computing.{Computed, InTurn, Left, LeftNone, Puts, Takes, Computes, HandsOutComputed, HandsOutLeft, HandsOutTaken, HandsOutUpserted, IsComputedBy, IsUpsertOf, Upserts}
+use Rattle.moka_cache.specs.Compute.{Computed, InTurn, Left, LeftNone, Puts, Takes, Computes, HandsOutComputed, HandsOutLeft, HandsOutTaken, HandsOutUpserted, IsComputedBy, IsUpsertOf, Upserts}
 use Rattle.moka_cache.specs.Counters.{one_more}
 use Rattle.moka_cache.specs.Given.{ComesBack, Sees}
 use Rattle.moka_cache.specs.Synchronous.{Makes, GetsValue, InsertsMade, RemovesEntry}

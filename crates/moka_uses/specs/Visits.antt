@@ -11,7 +11,7 @@ use Rattle.moka_cache.specs.parts.Op.{Op}
 use Rattle.moka_cache.specs.parts.Op.TheVariants.{Nop, Remove}
 use Rattle.moka_cache.specs.parts.GetWithRefused.{GetWithRefused}
 use Rattle.moka_cache.specs.parts.GetWithRefused.TheVariants as get_with_refused
-use Rattle.moka_cache.specs.Computing.{InTurn}
+use Rattle.moka_cache.specs.Compute.{InTurn}
 use Rattle.moka_cache.specs.Counters.{one_more}
 use Rattle.moka_cache.specs.Synchronous.{Makes, GetsValue, InsertsMade, RemovesEntry}
 use Rattle.moka_uses.specs.Made.{LooksUp, plain_meaning}

@@ -1,6 +1,6 @@
 //! Entry calls by moka's names: a value that is put only if its key is not there.
 ghost use Rattle.std.specs.Prelude.{◌≡◌, true, IfErr, IfOk, IsOk};
-ghost use Rattle.moka_cache.specs.Entries.{OrInserts};
+ghost use Rattle.moka_cache.specs.Entry.{OrInserts};
 ghost use Rattle.moka_cache.specs.Given.{IsHandedOut};
 ghost use Rattle.moka_engine.specs.Calls.{ContainsStep};
 ghost use Rattle.moka_engine.specs.Hashing.{key_hash};

@@ -1,17 +1,17 @@
 -- Each timer that is later than the wheel has one bucket where it can stand, and those of worked cases.
 use Rattle.std.proofs.Common.{◌≡◌, ℕ, ◌+◌, ◌-◌, ◌/◌, ◌^◌, ◌<◌, inl, inr, sym, ap, ◌∙◌, refl, arith}
 use Rattle.std.proofs.lemmas.Bool.{cases_order}
-use Rattle.moka_wheel.specs.Levels.{part, IsNear, IsAhead, IsHome}
+use Rattle.moka_wheel.specs.Levels.{part, FallsIn, IsAhead, IsHome}
 use Rattle.moka_wheel.proofs.Parts.{part-up, part-same_above}
 
 -- a bucket of a lower level leaves no room for one of a higher level
-lower_home : (m a b c : ℕ) → b / 256 < c / 256 → IsNear m a b → IsNear m a c → IsAhead m c → b ≡ c
+lower_home : (m a b c : ℕ) → b / 256 < c / 256 → FallsIn m a b → FallsIn m a c → IsAhead m c → b ≡ c
 lower_home m a b c lower near_b near_c ahead_c =
     let up : part a (b / 256 + 1) ≡ part m (b / 256 + 1) = sym (part-up a (b / 256)) ∙ near_b.above ∙ part-up m (b / 256) in
     let same : part a (c / 256) ≡ part m (c / 256) = part-same_above a m (b / 256 + 1) (c / 256) (omega (arith, lower)) up in
     absurd (omega (arith, same, near_c.byte, ahead_c))
 
-pub one_home : (m a b c : ℕ) → IsNear m a b → IsAhead m b → IsNear m a c → IsAhead m c → b ≡ c
+pub one_home : (m a b c : ℕ) → FallsIn m a b → IsAhead m b → FallsIn m a c → IsAhead m c → b ≡ c
 one_home m a b c near_b ahead_b near_c ahead_c = elim (cases_order (b / 256) (c / 256)) as (λ _. b ≡ c) [
   | inl e ↦ omega (arith, e, ap (part a) e, near_b.byte, near_c.byte)
   | inr (inl lower) ↦ lower_home m a b c lower near_b near_c ahead_c

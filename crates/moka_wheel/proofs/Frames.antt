@@ -5,7 +5,7 @@ use Rattle.std.proofs.lemmas.Bool.Decides.{nat_tests}
 use Rattle.std.proofs.lemmas.List.{get_or_past}
 use Rattle.moka_wheel.specs.declared.nodes.Entry.{Entry}
 use Rattle.moka_wheel.specs.Nodes.{Node, blank, at, befores, behinds, buckets, moments, numbers, detached, attached, held, timer_at}
-use Rattle.moka_wheel.specs.Buckets.{IsTimer, IsPlaced, Keeps}
+use Rattle.moka_wheel.specs.Buckets.{IsTimer, IsFiled, Keeps}
 use Rattle.moka_wheel.proofs.Sound.{detached-fields, attached-fields}
 
 -- what a node holds decides its timer
@@ -44,7 +44,7 @@ pub record Removes (ns ms : List Node) (s : ℕ) : Type 0 where
   pub number : numbers ms s ≡ numbers ns s
   pub moment : moments ms s ≡ moments ns s
 
-pub detach-removes : (ns : List Node) (ws : List ℕ) (w r s : ℕ) → IsPlaced ns ws w r → IsTimer ns s → Removes ns (detached ns s) s
+pub detach-removes : (ns : List Node) (ws : List ℕ) (w r s : ℕ) → IsFiled ns ws w r → IsTimer ns s → Removes ns (detached ns s) s
 detach-removes ns ws w r s placed t =
     let ms = detached ns s in
     let d = detached-fields ns ws w r s placed t in
@@ -68,7 +68,7 @@ pub record Adds (ns ms : List Node) (s : ℕ) : Type 0 where
   pub others : (i : ℕ) → i ≢ s → timer_at ms i ≡ timer_at ns i
   pub free : (i : ℕ) → i ≢ s → 2049 ≤ buckets ns i → at ms i ≡ at ns i
 
-pub attach-adds : (ns : List Node) (ws : List ℕ) (w r s h : ℕ) → IsPlaced ns ws w r → 2049 ≤ s → s < length ns → h < 2049 → Adds ns (attached ns s h) s
+pub attach-adds : (ns : List Node) (ws : List ℕ) (w r s h : ℕ) → IsFiled ns ws w r → 2049 ≤ s → s < length ns → h < 2049 → Adds ns (attached ns s h) s
 attach-adds ns ws w r s h placed past inside low =
     let ms = attached ns s h in
     let a = attached-fields ns ws w r s h placed inside low in

@@ -5,10 +5,10 @@ use Rattle.std.proofs.lemmas.List.{get_or_append_left, get_or_push}
 use Rattle.std.specs.FinMap.{empty, get, len, get-empty, len-empty}
 use Rattle.std.specs.Ordering.{nat_cmp}
 use Rattle.moka_links.proofs.Chains.{no-frees}
-use Rattle.moka_wheel.specs.Wheel.{Timer}
+use Rattle.moka_wheel.specs.TimerWheel.{Timer}
 use Rattle.moka_wheel.specs.declared.buckets.Buckets.{Buckets}
-use Rattle.moka_wheel.specs.Nodes.{Node, blank, at, befores, behinds, buckets, Step, Links, timer_at, timers_of}
-use Rattle.moka_wheel.specs.Buckets.{AreBuckets, IsPlaced}
+use Rattle.moka_wheel.specs.Nodes.{Node, blank, at, befores, behinds, buckets, Hop, Links, timer_at, timers_of}
+use Rattle.moka_wheel.specs.Buckets.{AreBuckets, IsFiled}
 use Rattle.moka_wheel.specs.Invariant.{IsWheel}
 use Rattle.moka_wheel.proofs.Frames.{head-none, past-none}
 use Rattle.moka_wheel.proofs.Sound.{placed-from}
@@ -23,7 +23,7 @@ head i = record { value = record { number = 0; at = 0; bucket = i }; before = i;
 pub more-heads : (ns : List Node) (n : ℕ) → length ns ≡ n → ((i : ℕ) → i < n → at ns i ≡ head i) → (i : ℕ) → i < n + 1 → at (ns ++ head n ∷ []) i ≡ head i
 more-heads ns n size heads i l = grind (arith, heads i, get_or_push ns (head n) blank i, get_or_append_left ns (head n ∷ []) blank i)
 
-pub heads-placed : (ns : List Node) (ws : List ℕ) (w : ℕ) → length ns ≡ 2049 → ((i : ℕ) → i < 2049 → at ns i ≡ head i) → ((k : ℕ) → get_or ws k 0 ≡ 0) → IsPlaced ns ws w 2048
+pub heads-placed : (ns : List Node) (ws : List ℕ) (w : ℕ) → length ns ≡ 2049 → ((i : ℕ) → i < 2049 → at ns i ≡ head i) → ((k : ℕ) → get_or ws k 0 ≡ 0) → IsFiled ns ws w 2048
 heads-placed ns ws w size heads off =
     let k : (i : ℕ) → i < 2049 → buckets ns i ≡ i = λ i l. ap (λ (n : Node). n.value.bucket) (heads i l) in
     let f : (i : ℕ) → i < 2049 → behinds ns i ≡ i = λ i l. ap (λ (n : Node). n.behind) (heads i l) in
@@ -31,8 +31,8 @@ heads-placed ns ws w size heads off =
     let links : Links (length ns) (behinds ns) (befores ns) (buckets ns) (λ _. 0) = record {
       sized = omega (arith, size);
       head = k;
-      on = λ i q l. subst (λ j. Step (length ns) (buckets ns) (befores ns) i j) (sym (f i (omega (arith, size)))) (record { within = q; same = refl; back = g i (omega (arith, size)) });
-      back = λ i q l. subst (λ j. Step (length ns) (buckets ns) (behinds ns) i j) (sym (g i (omega (arith, size)))) (record { within = q; same = refl; back = f i (omega (arith, size)) });
+      on = λ i q l. subst (λ j. Hop (length ns) (buckets ns) (befores ns) i j) (sym (f i (omega (arith, size)))) (record { within = q; same = refl; back = g i (omega (arith, size)) });
+      back = λ i q l. subst (λ j. Hop (length ns) (buckets ns) (behinds ns) i j) (sym (g i (omega (arith, size)))) (record { within = q; same = refl; back = f i (omega (arith, size)) });
       rising = λ i far q l. absurd (omega (arith, size));
     } in
     placed-from ns ws w 2048 (λ _. 0) links (λ i t. absurd (omega (arith, t.past, t.within, size)))

@@ -6,7 +6,7 @@ use Rattle.std.proofs.lemmas.Cmp.{nat_cmp_total}
 use Rattle.std.specs.Ordering.{nat_cmp}
 use Rattle.std.specs.FinMap.{FinMap, get, insert, remove, same_map, nat_cmp-IsAntisymmetric}
 use Rattle.moka_links.proofs.FinMaps.{get-put, get-taken}
-use Rattle.moka_wheel.specs.Wheel.{Timer}
+use Rattle.moka_wheel.specs.TimerWheel.{Timer}
 use Rattle.moka_wheel.specs.Nodes.{Node, timer_at, timers_of}
 use Rattle.moka_wheel.specs.Buckets.{Keeps, Puts, Takes}
 use Rattle.moka_wheel.proofs.Frames.{past-none}

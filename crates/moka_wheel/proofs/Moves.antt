@@ -2,7 +2,7 @@
 use Rattle.std.proofs.Common.{◌≡◌, ◌≢◌, ℕ, ◌+◌, ◌-◌, ◌*◌, ◌/◌, ◌%◌, ◌^◌, ◌<◌, ◌≤◌, inl, inr, sym, ap, ◌∙◌, subst, arith}
 use Rattle.std.proofs.lemmas.Nat.{pow_pos, pow-add, shr_below, shl_whole, le-div, div_below}
 use Rattle.std.proofs.lemmas.Bool.{cases_lt, cases_order}
-use Rattle.moka_wheel.specs.Levels.{part, IsNear, IsAhead, IsHome}
+use Rattle.moka_wheel.specs.Levels.{part, FallsIn, IsAhead, IsHome}
 use Rattle.moka_wheel.proofs.Parts.{part-up, part-mono, part-same_above, part-later}
 
 -- the first part of a bucket at its level
@@ -38,7 +38,7 @@ stays-while w u k le before =
     let m = part-mono w u (k / 256) le in
     record { ahead = omega arith; same = omega arith }
 
-pub near-along : (w u a k : ℕ) → part u (k / 256) / 256 ≡ part w (k / 256) / 256 → IsNear w a k → IsNear u a k
+pub near-along : (w u a k : ℕ) → part u (k / 256) / 256 ≡ part w (k / 256) / 256 → FallsIn w a k → FallsIn u a k
 near-along w u a k e n = record { above = n.above ∙ sym e; byte = n.byte }
 
 -- at the start of the first marked bucket, each later bucket that is ahead stays so
@@ -81,11 +81,11 @@ before-first w u b k le early order ahead_b ahead_k =
     ]
 
 -- a timer in a bucket that is ahead is later than the wheel
-pub near-later : (w a k : ℕ) → IsNear w a k → IsAhead w k → w < a
+pub near-later : (w a k : ℕ) → FallsIn w a k → IsAhead w k → w < a
 near-later w a k near ahead = part-later w a (k / 256) (omega (arith, near.above, near.byte, ahead))
 
 -- a timer of the bucket that was reached goes to a lower level
-pub home-lower : (u a b h : ℕ) → part u (b / 256) % 256 ≡ b % 256 → IsNear u a b → IsHome u a h → h < 2048 → h ≢ b
+pub home-lower : (u a b h : ℕ) → part u (b / 256) % 256 ≡ b % 256 → FallsIn u a b → IsHome u a h → h < 2048 → h ≢ b
 home-lower u a b h here near home small e =
     let n = home.ahead small in
     let agree : part a (b / 256) ≡ part u (b / 256) = omega (arith, near.above, near.byte, here) in

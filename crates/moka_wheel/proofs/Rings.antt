@@ -1,7 +1,7 @@
 -- The lists as rings, over plain functions.
 use Rattle.std.proofs.Common.{◌≡◌, ◌≢◌, ℕ, zero, suc, ◌+◌, ◌<◌, ◌≤◌, inl, inr, refl, sym, ap, ◌∙◌, subst, arith}
 use Rattle.std.proofs.lemmas.Bool.{cases_eq, cases_lt}
-use Rattle.moka_wheel.specs.Nodes.{Step, Links}
+use Rattle.moka_wheel.specs.Nodes.{Hop, Links}
 
 -- a timer is not its own neighbour
 pub before-other : (size : ℕ) (f g k rank : ℕ → ℕ) → Links size f g k rank → (s : ℕ) → 2049 ≤ s → s < size → k s < 2049 → g s ≢ s
@@ -14,7 +14,7 @@ behind-other size f g k rank links s past inside held e =
 -- ---- the links one way, where g are those the other way
 
 abbrev Steps : (size : ℕ) (f g k : ℕ → ℕ) → Type 0
-Steps size f g k = (i : ℕ) → i < size → k i < 2049 → Step size k g i (f i)
+Steps size f g k = (i : ℕ) → i < size → k i < 2049 → Hop size k g i (f i)
 
 -- the slot s leaves its list
 steps-detach : (size s : ℕ) (f g k f' g' k' : ℕ → ℕ) → Steps size f g k → Steps size g f k → s < size → k s < 2049 → f s ≢ s → g s ≢ s
@@ -26,8 +26,8 @@ steps-detach size s f g k f' g' k' on back inside held f_ne g_ne fo fs go gs ko 
     let b = on s inside held in
     let p = back s inside held in
     let other : i ≢ s = λ e. omega (arith, ap k' e, ks, l) in
-    elim (cases_eq i (g s)) as (λ _. Step size k' g' i (f' i)) [
-      | inl e ↦ subst (λ x. Step size k' g' x (f' x)) (sym e) (subst (λ y. Step size k' g' (g s) y) (sym fs) (record {
+    elim (cases_eq i (g s)) as (λ _. Hop size k' g' i (f' i)) [
+      | inl e ↦ subst (λ x. Hop size k' g' x (f' x)) (sym e) (subst (λ y. Hop size k' g' (g s) y) (sym fs) (record {
         within = b.within;
         same = ko (f s) f_ne ∙ b.same ∙ sym p.same ∙ sym (ko (g s) g_ne);
         back = gs;
@@ -36,7 +36,7 @@ steps-detach size s f g k f' g' k' on back inside held f_ne g_ne fo fs go gs ko 
           let t = on i q (omega (arith, ko i other, l)) in
           let not_s : f i ≢ s = λ e. ne (sym t.back ∙ ap g e) in
           let not_b : f i ≢ f s = λ e. other (sym t.back ∙ ap g e ∙ b.back) in
-          subst (λ y. Step size k' g' i y) (sym (fo i ne)) (record {
+          subst (λ y. Hop size k' g' i y) (sym (fo i ne)) (record {
             within = t.within;
             same = ko (f i) not_s ∙ t.same ∙ sym (ko i other);
             back = go (f i) not_b ∙ t.back;
@@ -49,14 +49,14 @@ steps-attach : (size s p b h : ℕ) (f g k f' g' k' : ℕ → ℕ) → Steps siz
     → ((i : ℕ) → i ≢ b → i ≢ s → g' i ≡ g i) → g' b ≡ s → g' s ≡ p → g b ≡ p
     → ((i : ℕ) → i ≢ s → k' i ≡ k i) → k' s ≡ h
     → Steps size f' g' k'
-steps-attach size s p b h f g k f' g' k' on inside free low kp b_in kb fp p_ne b_ne fo fl fs go gb gs gbp ko ks i q l = elim (cases_eq i s) as (λ _. Step size k' g' i (f' i)) [
-  | inl e ↦ subst (λ x. Step size k' g' x (f' x)) (sym e) (subst (λ y. Step size k' g' s y) (sym fs) (record {
+steps-attach size s p b h f g k f' g' k' on inside free low kp b_in kb fp p_ne b_ne fo fl fs go gb gs gbp ko ks i q l = elim (cases_eq i s) as (λ _. Hop size k' g' i (f' i)) [
+  | inl e ↦ subst (λ x. Hop size k' g' x (f' x)) (sym e) (subst (λ y. Hop size k' g' s y) (sym fs) (record {
     within = b_in;
     same = ko b b_ne ∙ kb ∙ sym ks;
     back = gb;
   }))
-  | inr ne ↦ elim (cases_eq i p) as (λ _. Step size k' g' i (f' i)) [
-    | inl e ↦ subst (λ x. Step size k' g' x (f' x)) (sym e) (subst (λ y. Step size k' g' p y) (sym fl) (record {
+  | inr ne ↦ elim (cases_eq i p) as (λ _. Hop size k' g' i (f' i)) [
+    | inl e ↦ subst (λ x. Hop size k' g' x (f' x)) (sym e) (subst (λ y. Hop size k' g' p y) (sym fl) (record {
       within = inside;
       same = ks ∙ sym kp ∙ sym (ko p p_ne);
       back = gs;
@@ -66,7 +66,7 @@ steps-attach size s p b h f g k f' g' k' on inside free low kp b_in kb fp p_ne b
         let t = on i q was in
         let not_s : f i ≢ s = λ z. omega (arith, ap k z, free, t.same, was) in
         let not_b : f i ≢ b = λ z. np (sym t.back ∙ ap g z ∙ gbp) in
-        subst (λ y. Step size k' g' i y) (sym (fo i np ne)) (record {
+        subst (λ y. Hop size k' g' i y) (sym (fo i np ne)) (record {
           within = t.within;
           same = ko (f i) not_s ∙ t.same ∙ sym (ko i ne);
           back = go (f i) not_b not_s ∙ t.back;
@@ -83,7 +83,7 @@ steps-same size size' s f g k f' g' k' on free free' grown inside fo go ko i q l
     let was : k i < 2049 = omega (arith, ko i ne, l) in
     let t = on i (inside i ne q) was in
     let not_s : f i ≢ s = λ z. omega (arith, ap k z, free, t.same, was) in
-    subst (λ y. Step size' k' g' i y) (sym (fo i ne)) (record {
+    subst (λ y. Hop size' k' g' i y) (sym (fo i ne)) (record {
       within = omega (arith, t.within);
       same = ko (f i) not_s ∙ t.same ∙ sym (ko i ne);
       back = go (f i) not_s ∙ t.back;

@@ -4,7 +4,7 @@ use Rattle.std.proofs.lemmas.Bool.{false≢true}
 use Rattle.std.specs.FinMap.{get, len}
 use Rattle.moka_links.specs.Chains.{Frees, free_of}
 use Rattle.moka_wheel.specs.declared.buckets.Buckets.{Buckets}
-use Rattle.moka_wheel.specs.Wheel.{Timer}
+use Rattle.moka_wheel.specs.TimerWheel.{Timer}
 use Rattle.moka_wheel.specs.Nodes.{Node, at, behinds, buckets, moments, numbers, timer_at, timers_of}
 use Rattle.moka_wheel.specs.Buckets.{AreBuckets, IsTimer, Keeps, Puts, Takes}
 use Rattle.moka_wheel.specs.Invariant.{IsWheel}

@@ -3,7 +3,7 @@ use Rattle.std.proofs.Common.{◌≡◌, ◌≢◌, ℕ, zero, suc, ◌+◌, ◌
 use Rattle.std.proofs.lemmas.Bool.{cases_lt, cases_Bool, false≢true}
 use Rattle.std.proofs.lemmas.Bool.Decides.{nat_tests}
 use Rattle.moka_wheel.specs.Nodes.{Node, befores, behinds, buckets, moments}
-use Rattle.moka_wheel.specs.Buckets.{IsTimer, IsPlaced}
+use Rattle.moka_wheel.specs.Buckets.{IsTimer, IsFiled}
 use Rattle.moka_wheel.proofs.Counts.{count_to, count-fewer, count-none, count-more}
 use Rattle.moka_wheel.proofs.Rings.{behind-other}
 
@@ -28,7 +28,7 @@ pub record Walk (ns : List Node) (now slot steps : ℕ) : Type 0 where
   pub counted : count_to seen (length ns) ≡ steps
 
 -- the walk begins behind the head
-pub walk-start : (ns : List Node) (ws : List ℕ) (w now : ℕ) → IsPlaced ns ws w 2048 → Walk ns now (behinds ns 2048) 0
+pub walk-start : (ns : List Node) (ws : List ℕ) (w now : ℕ) → IsFiled ns ws w 2048 → Walk ns now (behinds ns 2048) 0
 walk-start ns ws w now placed =
     let head = placed.links.head 2048 (omega arith) in
     let t = placed.links.on 2048 (omega (arith, placed.links.sized)) (omega (arith, head)) in
@@ -48,14 +48,14 @@ walk-start ns ws w now placed =
     }
 
 -- a slot that is in the due list is its head or a timer
-pub due-or-head : (ns : List Node) (ws : List ℕ) (w i : ℕ) → IsPlaced ns ws w 2048 → i < length ns → buckets ns i ≡ 2048 → (i ≡ 2048) ⊎ IsDue ns i
+pub due-or-head : (ns : List Node) (ws : List ℕ) (w i : ℕ) → IsFiled ns ws w 2048 → i < length ns → buckets ns i ≡ 2048 → (i ≡ 2048) ⊎ IsDue ns i
 due-or-head ns ws w i placed l e = elim (cases_lt i 2049) as (λ _. (i ≡ 2048) ⊎ IsDue ns i) [
   | inl low ↦ inl (sym (placed.links.head i low) ∙ e)
   | inr past ↦ inr (record { timer = record { past = past; within = l; held = omega (arith, e) }; bucket = e })
 ]
 
 -- one step past a timer that is later
-pub walk-step : (ns : List Node) (ws : List ℕ) (w now slot steps : ℕ) → IsPlaced ns ws w 2048 → Walk ns now slot steps → slot ≢ 2048 → now < moments ns slot → Walk ns now (behinds ns slot) (steps + 1)
+pub walk-step : (ns : List Node) (ws : List ℕ) (w now slot steps : ℕ) → IsFiled ns ws w 2048 → Walk ns now slot steps → slot ≢ 2048 → now < moments ns slot → Walk ns now (behinds ns slot) (steps + 1)
 walk-step ns ws w now slot steps placed walk ne late =
     let past : 2049 ≤ slot = elim (due-or-head ns ws w slot placed walk.within walk.bucket) as (λ _. 2049 ≤ slot) [
       | inl e ↦ absurd (ne e)
@@ -91,7 +91,7 @@ walk-step ns ws w now slot steps placed walk ne late =
     }
 
 -- what is due was seen, where the walk is back at the head
-pub seen-all : (ns : List Node) (ws : List ℕ) (w now slot steps : ℕ) (placed : IsPlaced ns ws w 2048) (walk : Walk ns now slot steps) → slot ≡ 2048
+pub seen-all : (ns : List Node) (ws : List ℕ) (w now slot steps : ℕ) (placed : IsFiled ns ws w 2048) (walk : Walk ns now slot steps) → slot ≡ 2048
     → (n i : ℕ) → placed.rank i < n → IsDue ns i → walk.seen i ≡ true
 seen-all ns ws w now slot steps placed walk home zero i r d = absurd (omega arith)
 seen-all ns ws w now slot steps placed walk home (suc n) i r d =
@@ -106,13 +106,13 @@ seen-all ns ws w now slot steps placed walk home (suc n) i r d =
       | inr same ↦ absurd (omega (arith, same, home, d.timer.past))
     ]
 
-pub walk-home : (ns : List Node) (ws : List ℕ) (w now slot steps i : ℕ) → IsPlaced ns ws w 2048 → Walk ns now slot steps → slot ≡ 2048 → IsTimer ns i → buckets ns i ≡ 2048 → now < moments ns i
+pub walk-home : (ns : List Node) (ws : List ℕ) (w now slot steps i : ℕ) → IsFiled ns ws w 2048 → Walk ns now slot steps → slot ≡ 2048 → IsTimer ns i → buckets ns i ≡ 2048 → now < moments ns i
 walk-home ns ws w now slot steps i placed walk home t e =
     let d : IsDue ns i = record { timer = t; bucket = e } in
     walk.later i d (seen-all ns ws w now slot steps placed walk home (placed.rank i + 1) i (omega arith) d)
 
 -- after as many steps as there are nodes the walk is back at the head
-pub walk-end : (ns : List Node) (ws : List ℕ) (w now slot : ℕ) → IsPlaced ns ws w 2048 → Walk ns now slot (length ns) → slot ≡ 2048
+pub walk-end : (ns : List Node) (ws : List ℕ) (w now slot : ℕ) → IsFiled ns ws w 2048 → Walk ns now slot (length ns) → slot ≡ 2048
 walk-end ns ws w now slot placed walk = elim (due-or-head ns ws w slot placed walk.within walk.bucket) as (λ _. slot ≡ 2048) [
   | inl e ↦ e
   | inr d ↦ absurd (omega (arith, count-fewer walk.seen (length ns) slot walk.within (walk.fresh d.timer.past), walk.counted))

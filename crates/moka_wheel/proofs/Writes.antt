@@ -2,10 +2,10 @@
 use Rattle.std.proofs.Common.{◌≡◌, ◌≢◌, ℕ, ◌+◌, ◌<◌, ◌≤◌, cond, nat_lt, List, [], ◌∷◌, ◌++◌, Some, None, length, get_or, set, length-set, refl, sym, ap, ◌∙◌, subst, arith}
 use Rattle.std.proofs.lemmas.List.{length_push, get_or_append_left, get_or_push, get_or_past, get_or_read}
 use Rattle.moka_links.proofs.Nodes.{set-other, set-same}
-use Rattle.moka_wheel.specs.Wheel.{Timer}
+use Rattle.moka_wheel.specs.TimerWheel.{Timer}
 use Rattle.moka_wheel.specs.Nodes.{Node, nothing, blank, at, befores, behinds, buckets, moments, numbers, detached, attached, held, timer_at}
 use Rattle.moka_wheel.specs.Levels.{IsHome, bit_of}
-use Rattle.moka_wheel.specs.Buckets.{IsTimer, IsPlaced, Puts, Takes}
+use Rattle.moka_wheel.specs.Buckets.{IsTimer, IsFiled, Puts, Takes}
 use Rattle.moka_wheel.proofs.Rings.{Links-same}
 use Rattle.moka_wheel.proofs.Sound.{kept, placed-from, attach-placed}
 use Rattle.moka_wheel.proofs.Frames.{attach-adds, held-none}
@@ -21,10 +21,10 @@ pub record FreeNode (ns ms : List Node) (ws : List ℕ) (w s : ℕ) (v : Node) :
   pub here : at ms s ≡ v
   pub free : 2049 ≤ buckets ms s
   pub others : (i : ℕ) → i ≢ s → at ms i ≡ at ns i
-  pub placed : IsPlaced ms ws w 2048
+  pub placed : IsFiled ms ws w 2048
 
 -- a write of a free node, or a new free node, changes no list
-free-node : (ns ms : List Node) (ws : List ℕ) (w s : ℕ) (v : Node) → IsPlaced ns ws w 2048 → 2049 ≤ s → s < length ms → 2049 ≤ buckets ns s → 2049 ≤ v.value.bucket
+free-node : (ns ms : List Node) (ws : List ℕ) (w s : ℕ) (v : Node) → IsFiled ns ws w 2048 → 2049 ≤ s → s < length ms → 2049 ≤ buckets ns s → 2049 ≤ v.value.bucket
     → length ns ≤ length ms → ((i : ℕ) → i ≢ s → i < length ms → i < length ns) → at ms s ≡ v → ((i : ℕ) → i ≢ s → at ms i ≡ at ns i) → FreeNode ns ms ws w s v
 free-node ns ms ws w s v placed past inside free free_v grown old here same =
     let now : 2049 ≤ buckets ms s = omega (arith, ap (λ (n : Node). n.value.bucket) here, free_v) in
@@ -40,13 +40,13 @@ free-node ns ms ws w s v placed past inside free free_v grown old here same =
           kept ns ms ws w 2048 i placed t (old i other t.within) (ap (λ n. n.value) (same i other))) placed.ahead placed.here;
     }
 
-written : (ns : List Node) (ws : List ℕ) (w s : ℕ) (v : Node) → IsPlaced ns ws w 2048 → 2049 ≤ s → s < length ns → 2049 ≤ buckets ns s → 2049 ≤ v.value.bucket → FreeNode ns (set ns s v) ws w s v
+written : (ns : List Node) (ws : List ℕ) (w s : ℕ) (v : Node) → IsFiled ns ws w 2048 → 2049 ≤ s → s < length ns → 2049 ≤ buckets ns s → 2049 ≤ v.value.bucket → FreeNode ns (set ns s v) ws w s v
 written ns ws w s v placed past inside free free_v =
     let size : length (set ns s v) ≡ length ns = length-set ns s v in
     free-node ns (set ns s v) ws w s v placed past (omega (arith, size)) free free_v (omega (arith, size)) (λ i ne l. omega (arith, size))
     (set-same nothing ns s v inside) (set-other nothing ns s v)
 
-grown : (ns : List Node) (ws : List ℕ) (w : ℕ) (v : Node) → IsPlaced ns ws w 2048 → 2049 ≤ v.value.bucket → FreeNode ns (ns ++ v ∷ []) ws w (length ns) v
+grown : (ns : List Node) (ws : List ℕ) (w : ℕ) (v : Node) → IsFiled ns ws w 2048 → 2049 ≤ v.value.bucket → FreeNode ns (ns ++ v ∷ []) ws w (length ns) v
 grown ns ws w v placed free_v =
     let s = length ns in
     let size : length (ns ++ v ∷ []) ≡ s + 1 = length_push ns v in
@@ -58,7 +58,7 @@ grown ns ws w v placed free_v =
 
 -- a free node comes to the list where its moment belongs
 pub record Put (ns os : List Node) (vs : List ℕ) (w s : ℕ) (t : Timer) : Type 0 where
-  pub placed : IsPlaced os vs w 2048
+  pub placed : IsFiled os vs w 2048
   pub puts : Puts ns os s t
 
 put : (ns ds ms : List Node) (ws vs : List ℕ) (w s h : ℕ) (v : Node) (t : Timer) → FreeNode ds ms ws w s v → v.value.number ≡ t.number → v.value.at ≡ t.at
@@ -78,21 +78,21 @@ put ns ds ms ws vs w s h v t f is_n is_a others frees home here bits =
     }
 
 -- a timer comes into a free node
-pub reused : (ns : List Node) (ws vs : List ℕ) (w s h : ℕ) (v : Node) → IsPlaced ns ws w 2048 → 2049 ≤ s → s < length ns → 2049 ≤ buckets ns s → v.value.bucket ≡ 2049
+pub reused : (ns : List Node) (ws vs : List ℕ) (w s h : ℕ) (v : Node) → IsFiled ns ws w 2048 → 2049 ≤ s → s < length ns → 2049 ≤ buckets ns s → v.value.bucket ≡ 2049
     → IsHome w (moments (set ns s v) s) h → (h < 2048 → bit_of vs h ≡ 1) → ((k : ℕ) → k ≢ h → bit_of vs k ≡ bit_of ws k)
     → Put ns (attached (set ns s v) s h) vs w s (record { number = v.value.number; at = v.value.at })
 reused ns ws vs w s h v placed past inside free e home here bits =
     put ns ns (set ns s v) ws vs w s h v _ (written ns ws w s v placed past inside free (omega (arith, e))) refl refl (λ i ne. refl) (λ i ne l. refl) home here bits
 
 -- a timer comes into a new node
-pub appended : (ns : List Node) (ws vs : List ℕ) (w h : ℕ) (v : Node) → IsPlaced ns ws w 2048 → v.value.bucket ≡ 2049
+pub appended : (ns : List Node) (ws vs : List ℕ) (w h : ℕ) (v : Node) → IsFiled ns ws w 2048 → v.value.bucket ≡ 2049
     → IsHome w (moments (ns ++ v ∷ []) (length ns)) h → (h < 2048 → bit_of vs h ≡ 1) → ((k : ℕ) → k ≢ h → bit_of vs k ≡ bit_of ws k)
     → Put ns (attached (ns ++ v ∷ []) (length ns) h) vs w (length ns) (record { number = v.value.number; at = v.value.at })
 appended ns ws vs w h v placed e home here bits =
     put ns ns (ns ++ v ∷ []) ws vs w (length ns) h v _ (grown ns ws w v placed (omega (arith, e))) refl refl (λ i ne. refl) (λ i ne l. refl) home here bits
 
 -- the node of a timer that left its list is written, by what is read of it
-pub unlisted : (ns : List Node) (ws : List ℕ) (w s : ℕ) (read v : Node) → IsPlaced ns ws w 2048 → IsTimer ns s → read ≡ get_or (detached ns s) s read
+pub unlisted : (ns : List Node) (ws : List ℕ) (w s : ℕ) (read v : Node) → IsFiled ns ws w 2048 → IsTimer ns s → read ≡ get_or (detached ns s) s read
     → v.value.bucket ≡ read.value.bucket → FreeNode (detached ns s) (set (detached ns s) s v) ws w s v
 unlisted ns ws w s read v placed t is e =
     let l = leaves ns ws w 2048 s placed t in
@@ -100,7 +100,7 @@ unlisted ns ws w s read v placed t is e =
     written (detached ns s) ws w s v l.placed t.past l.slot_in l.free (omega (arith, l.free, e, ap (λ (n : Node). n.value.bucket) here))
 
 -- a timer is given another moment
-pub timed : (ns : List Node) (ws vs : List ℕ) (w s h a : ℕ) (read : Node) → IsPlaced ns ws w 2048 → IsTimer ns s → read ≡ get_or (detached ns s) s read
+pub timed : (ns : List Node) (ws vs : List ℕ) (w s h a : ℕ) (read : Node) → IsFiled ns ws w 2048 → IsTimer ns s → read ≡ get_or (detached ns s) s read
     → let v : Node = record read { value = record read.value { at = a } } in
     IsHome w (moments (set (detached ns s) s v) s) h → (h < 2048 → bit_of vs h ≡ 1) → ((k : ℕ) → k ≢ h → bit_of vs k ≡ bit_of ws k)
     → Put ns (attached (set (detached ns s) s v) s h) vs w s (record { number = numbers ns s; at = a })
@@ -113,10 +113,10 @@ timed ns ws vs w s h a read placed t is home here bits =
 
 -- a timer is taken out, and its node leads to the next free one
 pub record Taken (ns os : List Node) (ws : List ℕ) (w s next : ℕ) : Type 0 where
-  pub placed : IsPlaced os ws w 2048
+  pub placed : IsFiled os ws w 2048
   pub takes : Takes ns os s next
 
-pub taken : (ns : List Node) (ws : List ℕ) (w s next : ℕ) (read : Node) → IsPlaced ns ws w 2048 → IsTimer ns s → read ≡ get_or (detached ns s) s read
+pub taken : (ns : List Node) (ws : List ℕ) (w s next : ℕ) (read : Node) → IsFiled ns ws w 2048 → IsTimer ns s → read ≡ get_or (detached ns s) s read
     → Taken ns (set (detached ns s) s (record read { behind = next })) ws w s next
 taken ns ws w s next read placed t is =
     let l = leaves ns ws w 2048 s placed t in

@@ -1,9 +1,9 @@
 -- What is true of the lists of a wheel. No public clause cites this module.
 use Rattle.std.specs.Prelude.{◌≡◌, ◌≢◌, ℕ, ◌/◌, ◌%◌, ◌<◌, ◌≤◌, List, length, Some, None}
-use Rattle.moka_wheel.specs.Wheel.{Timer}
+use Rattle.moka_wheel.specs.TimerWheel.{Timer}
 use Rattle.moka_wheel.specs.declared.buckets.Buckets.{Buckets}
 use Rattle.moka_wheel.specs.Nodes.{Node, at, befores, behinds, buckets, moments, Links, timer_at}
-use Rattle.moka_wheel.specs.Levels.{part, IsNear, IsAhead, bit_of}
+use Rattle.moka_wheel.specs.Levels.{part, FallsIn, IsAhead, bit_of}
 
 -- a timer stands in the slot
 pub record IsTimer (ns : List Node) (i : ℕ) : Type 0 where
@@ -13,18 +13,18 @@ pub record IsTimer (ns : List Node) (i : ℕ) : Type 0 where
 
 -- each timer stands in the list where its moment belongs, and each bucket in use is marked.
 -- A marked bucket is ahead of the wheel's moment; only one that was just reached is at it.
-pub record IsPlaced (ns : List Node) (words : List ℕ) (moment reached : ℕ) : Type 0 where
+pub record IsFiled (ns : List Node) (words : List ℕ) (moment reached : ℕ) : Type 0 where
   pub rank : ℕ → ℕ
   pub links : Links (length ns) (behinds ns) (befores ns) (buckets ns) rank
   pub due : (i : ℕ) → IsTimer ns i → buckets ns i ≡ 2048 → moments ns i ≤ moment
   pub marked : (i : ℕ) → IsTimer ns i → buckets ns i < 2048 → bit_of words (buckets ns i) ≡ 1
-  pub near : (i : ℕ) → IsTimer ns i → buckets ns i < 2048 → IsNear moment (moments ns i) (buckets ns i)
+  pub near : (i : ℕ) → IsTimer ns i → buckets ns i < 2048 → FallsIn moment (moments ns i) (buckets ns i)
   pub ahead : (k : ℕ) → k < 2048 → k ≢ reached → bit_of words k ≡ 1 → IsAhead moment k
   pub here : reached < 2048 → part moment (reached / 256) % 256 ≡ reached % 256
 
 -- the same of a wheel's buckets, of which one may have been reached; 2048 stands for none
 abbrev pub AreBuckets : Buckets → ℕ → Type 0
-AreBuckets b reached = IsPlaced b.nodes.items b.occupied b.moment reached
+AreBuckets b reached = IsFiled b.nodes.items b.occupied b.moment reached
 
 -- each timer keeps its slot, its number and its moment, and each free node stays as it is
 pub record Keeps (old new : List Node) : Type 0 where

@@ -19,7 +19,7 @@ abbrev pub end_of : ℕ → ℕ → ℕ
 end_of moment bucket = start_of moment bucket + (span_of bucket - 1)
 
 -- the bucket is that of the timer's byte at a level above which its moment agrees with the wheel's
-pub record IsNear (moment at bucket : ℕ) : Type 0 where
+pub record FallsIn (moment at bucket : ℕ) : Type 0 where
   pub above : part at (bucket / 256) / 256 ≡ part moment (bucket / 256) / 256
   pub byte : part at (bucket / 256) % 256 ≡ bucket % 256
 
@@ -32,7 +32,7 @@ IsAhead moment bucket = part moment (bucket / 256) % 256 < bucket % 256
 pub record IsHome (moment at bucket : ℕ) : Type 0 where
   pub within : bucket < 2049
   pub due : bucket ≡ 2048 → at ≤ moment
-  pub near : bucket < 2048 → IsNear moment at bucket
+  pub near : bucket < 2048 → FallsIn moment at bucket
   pub ahead : bucket < 2048 → IsAhead moment bucket
 
 -- the bit of a bucket

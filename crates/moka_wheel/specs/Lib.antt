@@ -1,4 +1,4 @@
-pub mod Wheel
+pub mod TimerWheel
 pub mod Slots
 pub mod Nodes
 pub mod Levels

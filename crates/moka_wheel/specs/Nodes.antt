@@ -5,7 +5,7 @@ use Rattle.std.specs.Ordering.{nat_cmp}
 use Rattle.moka_links.specs.declared.Node.{Node as Linked}
 use Rattle.moka_links.specs.Links as links
 use Rattle.moka_wheel.specs.declared.nodes.Entry.{Entry}
-use Rattle.moka_wheel.specs.Wheel.{Timer}
+use Rattle.moka_wheel.specs.TimerWheel.{Timer}
 use Rattle.moka_wheel.specs.Slots.{map_of}
 
 -- an entry with its neighbours
@@ -57,7 +57,7 @@ abbrev pub attached : List Node → ℕ → ℕ → List Node
 attached ns s h = with_bucket (links.attached nothing ns s h) s h
 
 -- one step along the links leads from i to j, and the opposite links lead back
-pub record Step (size : ℕ) (bucket opposite : ℕ → ℕ) (i j : ℕ) : Type 0 where
+pub record Hop (size : ℕ) (bucket opposite : ℕ → ℕ) (i j : ℕ) : Type 0 where
   pub within : j < size
   pub same : bucket j ≡ bucket i
   pub back : opposite j ≡ i
@@ -67,8 +67,8 @@ pub record Step (size : ℕ) (bucket opposite : ℕ → ℕ) (i j : ℕ) : Type 
 pub record Links (size : ℕ) (behind before bucket rank : ℕ → ℕ) : Type 0 where
   pub sized : 2049 ≤ size
   pub head : (i : ℕ) → i < 2049 → bucket i ≡ i
-  pub on : (i : ℕ) → i < size → bucket i < 2049 → Step size bucket before i (behind i)
-  pub back : (i : ℕ) → i < size → bucket i < 2049 → Step size bucket behind i (before i)
+  pub on : (i : ℕ) → i < size → bucket i < 2049 → Hop size bucket before i (behind i)
+  pub back : (i : ℕ) → i < size → bucket i < 2049 → Hop size bucket behind i (before i)
   pub rising : (i : ℕ) → 2049 ≤ i → i < size → bucket i < 2049 → rank (before i) < rank i
 
 -- the timer that a node holds, if it is not free

@@ -2,7 +2,7 @@
 use Rattle.std.specs.Prelude.{ℕ, zero, suc, List, [], ◌∷◌, Option, Some, None}
 use Rattle.std.specs.FinMap.{FinMap, from_entries}
 use Rattle.std.specs.Ordering.{nat_cmp}
-use Rattle.moka_wheel.specs.Wheel.{Timer}
+use Rattle.moka_wheel.specs.TimerWheel.{Timer}
 
 -- the entry of a slot comes first, if a timer is there
 abbrev pub entry : ℕ → Option Timer → List (ℕ × Timer) → List (ℕ × Timer)

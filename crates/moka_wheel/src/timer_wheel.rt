@@ -1,7 +1,7 @@
 //! A hierarchical timer wheel.
 ghost use Rattle.std.specs.Prelude.{◌≡◌, ◌+◌, ◌-◌, ◌*◌, ◌^◌, ◌<◌, ◌≤◌, ℕ, min, IsOk, IsSome, OnOk, IfOk, IfSome, IfNone, Some, None, nat_eq, option_map, if◌then◌else◌};
 ghost use Rattle.std.specs.FinMap.{empty, get, insert, len, remove};
-ghost use Rattle.moka_wheel.specs.Wheel.{Timer};
+ghost use Rattle.moka_wheel.specs.TimerWheel.{Timer};
 
 use crate::buckets::Buckets;
 use crate::nodes::HEADS;
@@ -49,7 +49,7 @@ impl Drop for TimerWheel {
 }
 
 impl Model for TimerWheel {
-    ghost use Rattle.moka_wheel.specs.Wheel.{Timers, timers_code};
+    ghost use Rattle.moka_wheel.specs.TimerWheel.{Timers, timers_code};
 
     ghost Value = { Timers };
 

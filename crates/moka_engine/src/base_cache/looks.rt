@@ -10,7 +10,7 @@ ghost use Rattle.moka_parts.specs.Runs.{Befalls};
 ghost use Rattle.moka_parts.specs.Surroundings.{IsAskedOnce, Leads};
 ghost use Rattle.moka_store.specs.Hashing.{IsIndexHash};
 ghost use Rattle.moka_engine.specs.Looks.{CanHandOut, CanHandOutValue, LooksUp};
-ghost use Rattle.moka_lookups.specs.Looks.{value_of};
+ghost use Rattle.moka_lookups.specs.Gets.{value_of};
 ghost use Rattle.moka_engine.specs.Makes.{Takes};
 
 use super::{BaseCache, hits};

@@ -3,7 +3,7 @@
 ghost use Rattle.std.specs.Prelude.{◌≡◌, option_map};
 ghost use Rattle.moka_records.specs.Records.{is_applied, record_of_key};
 ghost use Rattle.moka_lookups.specs.Sights.{IsSight};
-ghost use Rattle.moka_lookups.specs.Snapshots.{scene_of};
+ghost use Rattle.moka_lookups.specs.Snapshot.{scene_of};
 
 use super::BaseCache;
 use moka_lookups::sights::{Sight, lapse_of};

@@ -5,7 +5,7 @@ ghost use Rattle.moka_records.specs.Hashing.{key_hash};
 ghost use Rattle.moka_records.specs.KeyTests.{record_by};
 ghost use Rattle.moka_store.specs.Hashing.{IsIndexHash};
 ghost use Rattle.moka_store.specs.Store.{IsHandle, IsOneEach};
-ghost use Rattle.moka_store.specs.StoreRows.{passes_at};
+ghost use Rattle.moka_store.specs.Rows.{passes_at};
 
 use super::{Handle, IndexHash, Store, changes};
 use moka_records::key_test::KeyTest;

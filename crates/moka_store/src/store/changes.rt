@@ -1,6 +1,6 @@
 //! Changes and reads at one place of the table.
 ghost use Rattle.std.specs.Prelude.{◌≡◌, ◌^◌, ◌<◌, ◌≤◌, IsOk, IsSome, OnOk, Some, option_map};
-ghost use Rattle.moka_store.specs.StoreRows.{member_in, row_room, timer_at, written_at};
+ghost use Rattle.moka_store.specs.Rows.{member_in, row_room, timer_at, written_slot_at};
 ghost use Rattle.moka_records.specs.declared.records.Record.{Record};
 ghost use Rattle.moka_records.specs.Records.{member};
 ghost use Rattle.moka_table.specs.RecordTable.{Row, number_at, row_at, stored_at};
@@ -91,7 +91,7 @@ pub(crate) fn handle_at<K, V>(table: &RecordTable<K, V>, place: usize) -> Handle
 
 // The slot in the write list of the row at this place.
 pub(crate) fn written_slot<K, V>(table: &RecordTable<K, V>, place: usize) -> Option<u32>
-    ensures { result ≡ written_at table.now.rows place }
+    ensures { result ≡ written_slot_at table.now.rows place }
 {
     table.membership(place)?.written
 }
@@ -99,7 +99,7 @@ pub(crate) fn written_slot<K, V>(table: &RecordTable<K, V>, place: usize) -> Opt
 // The node of the write list that leads to the row at this place.
 pub(crate) fn written_node<K, V>(table: &RecordTable<K, V>, place: usize) -> Option<(u32, u32)>
     requires { place < 2 ^ 32 }
-    ensures { result ≡ option_map (λ slot. (slot, place)) (written_at table.now.rows place) }
+    ensures { result ≡ option_map (λ slot. (slot, place)) (written_slot_at table.now.rows place) }
 {
     let slot = written_slot(table, place)?;
     Some((slot, place as u32))

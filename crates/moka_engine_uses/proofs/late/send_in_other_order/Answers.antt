@@ -3,7 +3,7 @@ use Rattle.moka_engine.specs.Calls.{no_events}
 use Rattle.moka_engine.specs.Config.{chosen_settings}
 use Rattle.moka_engine.specs.State.{is_disabled}
 use Rattle.moka_engine.specs.declared.NoWeigher.{NoWeigher}
-use Rattle.moka_cache.specs.Saved.{HasRoomFor}
+use Rattle.moka_cache.specs.Saves.{HasRoomFor}
 use Rattle.moka_engine_uses.proofs.Both.{AreBoth, both_stay, never_lapses, put_both, reports_both, weighs_one}
 use Rattle.moka_uses.proofs.Sent.{hands_out, sends, sent_in_other_order, alike_then}
 use Rattle.moka_engine_uses.proofs.late.send_in_other_order.Goals as goal

@@ -1,5 +1,5 @@
 use Rattle.moka_records.specs.KeyTests.{record_by}
-use Rattle.moka_lookups.specs.Looks.{value_of}
+use Rattle.moka_lookups.specs.Gets.{value_of}
 use Rattle.moka_lookups.proofs.FindSteps.{ignores_nothing}
 use Rattle.moka_lookups.proofs.gets.find_shown.Goals as goal
 

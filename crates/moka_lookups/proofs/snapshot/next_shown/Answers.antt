@@ -1,6 +1,6 @@
 use Rattle.std.proofs.Common.{refl, sym, inl, inr, ap, ◌∙◌, arith, length, []}
 use Rattle.std.specs.FinMap.{get}
-use Rattle.moka_lookups.specs.Snapshots.{Scene, scene_at, IsHiddenIn}
+use Rattle.moka_lookups.specs.Snapshot.{Scene, scene_at, IsHiddenIn}
 use Rattle.moka_lookups.proofs.Passing.{goes_on, stands_next, passed_gone, passed_hidden, passes_one, passes_found}
 use Rattle.moka_lookups.proofs.snapshot.next_shown.Goals as goal
 use Rattle.moka_lookups.proofs.snapshot.next_shown.Goals.{else-not-has_lapsed-via-then-not-has_lapsed+else-not-apply_predicates, else-not-has_lapsed-via-else-not-has_lapsed}

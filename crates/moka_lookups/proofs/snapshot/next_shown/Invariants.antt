@@ -1,5 +1,5 @@
 use Rattle.std.proofs.Common.{IfSome, length, option_map}
-use Rattle.moka_lookups.specs.Snapshots.{scene_at, members_from, StandsIn}
+use Rattle.moka_lookups.specs.Snapshot.{scene_at, members_from, StandsIn}
 use Rattle.moka_lookups.proofs.Passing.{PassesTo}
 use Rattle.moka_lookups.proofs.snapshot.next_shown.Given as goal
 

@@ -1,7 +1,7 @@
 use Rattle.std.proofs.Common.{List, sym, subst}
 use Rattle.std.proofs.lemmas.List.{take_more, take_all}
 use Rattle.moka_maintenance.specs.declared.queued.QueuedRead.{QueuedRead}
-use Rattle.moka_maintenance.specs.Queues.{AppliesReads}
+use Rattle.moka_maintenance.specs.Admission.{AppliesReads}
 use Rattle.moka_maintenance.proofs.ReadsApplied.{applies-none, applies-one, applies-both}
 use Rattle.moka_maintenance.proofs.admission.apply_each_read.Goals as goal
 

@@ -1,5 +1,5 @@
 use Rattle.std.proofs.Common.{take}
-use Rattle.moka_maintenance.specs.Queues.{AppliesReads}
+use Rattle.moka_maintenance.specs.Admission.{AppliesReads}
 use Rattle.moka_maintenance.proofs.admission.apply_each_read.Given as goal
 
 abbrev pub invariant-loop-read : goal.invariant-loop-read

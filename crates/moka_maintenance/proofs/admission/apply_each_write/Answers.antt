@@ -2,7 +2,7 @@ use Rattle.std.proofs.Common.{List, take, sym, subst, get_or}
 use Rattle.std.proofs.lemmas.List.{take_more, take_all}
 use Rattle.moka_maintenance.specs.declared.queued.QueuedWrite.{QueuedWrite}
 use Rattle.moka_maintenance.specs.Queued.{writes_of}
-use Rattle.moka_maintenance.specs.Queues.{AppliesWrites}
+use Rattle.moka_maintenance.specs.Admission.{AppliesWrites}
 use Rattle.moka_maintenance.proofs.WritesApplied.{writes-none, writes-one, writes-on}
 use Rattle.moka_maintenance.proofs.admission.apply_each_write.Goals as goal
 

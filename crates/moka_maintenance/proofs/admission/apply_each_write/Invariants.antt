@@ -1,6 +1,6 @@
 use Rattle.std.proofs.Common.{take}
 use Rattle.moka_maintenance.specs.Queued.{writes_of}
-use Rattle.moka_maintenance.specs.Queues.{AppliesWrites}
+use Rattle.moka_maintenance.specs.Admission.{AppliesWrites}
 use Rattle.moka_maintenance.proofs.admission.apply_each_write.Given as goal
 
 abbrev pub invariant-loop-sent : goal.invariant-loop-sent

@@ -3,7 +3,7 @@ use Rattle.std.proofs.lemmas.List.Elements.{Contains-append_left, Contains-appen
 use Rattle.moka_parts.specs.State.{Contents}
 use Rattle.moka_maintenance.specs.declared.queued.QueuedRead.{QueuedRead}
 use Rattle.moka_maintenance.specs.Queued.{counted_all}
-use Rattle.moka_maintenance.specs.Queues.{AppliesReads}
+use Rattle.moka_maintenance.specs.Admission.{AppliesReads}
 use Rattle.moka_maintenance.specs.Steps.{contents_with}
 use Rattle.moka_maintenance.proofs.ReadsApplied.{applies-both, counted-both, located-on, reads-apart}
 use Rattle.moka_maintenance.proofs.admission.apply_reads.Goals as goal

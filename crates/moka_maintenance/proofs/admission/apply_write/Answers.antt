@@ -1,7 +1,7 @@
 use Rattle.std.proofs.Common.{ap, sym, subst}
 use Rattle.moka_records.specs.declared.records.Operation.{Operation}
 use Rattle.moka_parts.specs.State.{Contents}
-use Rattle.moka_maintenance.specs.Queues.{AppliesWrite}
+use Rattle.moka_maintenance.specs.Admission.{AppliesWrite}
 use Rattle.moka_maintenance.specs.Steps.{contents_with}
 use Rattle.moka_maintenance.proofs.Fates.{applied-removal}
 use Rattle.moka_maintenance.proofs.admission.apply_write.Goals as goal

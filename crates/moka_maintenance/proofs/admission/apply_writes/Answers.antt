@@ -2,7 +2,7 @@ use Rattle.std.proofs.Common.{List, subst, Contains}
 use Rattle.std.proofs.lemmas.List.Elements.{Contains-append_left, Contains-append_right}
 use Rattle.moka_maintenance.specs.declared.queued.QueuedWrite.{QueuedWrite}
 use Rattle.moka_maintenance.specs.Queued.{writes_of}
-use Rattle.moka_maintenance.specs.Queues.{AppliesWrites}
+use Rattle.moka_maintenance.specs.Admission.{AppliesWrites}
 use Rattle.moka_maintenance.proofs.WritesApplied.{writes-on}
 use Rattle.moka_maintenance.proofs.admission.apply_writes.Goals as goal
 

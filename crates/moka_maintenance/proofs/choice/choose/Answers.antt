@@ -7,7 +7,7 @@ use Rattle.moka_parts.specs.Candidates.{hash_of}
 use Rattle.moka_records.specs.Records.{counted_of, is_settled, member, to_back}
 use Rattle.moka_store.specs.Store.{Kept}
 use Rattle.moka_store.specs.declared.store.Handle.{Handle}
-use Rattle.moka_maintenance.specs.Chosen.{Chooses}
+use Rattle.moka_maintenance.specs.Choice.{Chooses}
 use Rattle.moka_maintenance.specs.Steps.{contents_with}
 use Rattle.moka_maintenance.proofs.Walking.{Walks, walks-none, walks-settled, walks-unsettled, walks-as, walks-over}
 use Rattle.moka_maintenance.proofs.choice.choose.Goals as goal

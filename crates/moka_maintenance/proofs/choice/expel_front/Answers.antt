@@ -16,7 +16,7 @@ use Rattle.moka_records.proofs.Maps.{itself_tested}
 use Rattle.moka_store.specs.Store.{Kept}
 use Rattle.moka_store.proofs.Gets.{get-past_remove}
 use Rattle.moka_maintenance.specs.Steps.{Stock, contents_in, Told}
-use Rattle.moka_maintenance.specs.Chosen.{AreSettled}
+use Rattle.moka_maintenance.specs.Choice.{AreSettled}
 use Rattle.moka_maintenance.proofs.Popped.{none_first}
 use Rattle.moka_maintenance.proofs.Upkeep.{untimed-none, untimed-on}
 use Rattle.moka_maintenance.proofs.Told.{told-none, told-on}

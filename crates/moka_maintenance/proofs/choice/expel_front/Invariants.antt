@@ -3,7 +3,7 @@ use Rattle.std.specs.FinMap as finite
 use Rattle.std.specs.List.{IsDistinct}
 use Rattle.moka_records.specs.Records.{counted_of, numbers_of, without_numbers}
 use Rattle.moka_parts.specs.Writes.{left_with, without_victims}
-use Rattle.moka_maintenance.specs.Chosen.{AreSettled}
+use Rattle.moka_maintenance.specs.Choice.{AreSettled}
 use Rattle.moka_maintenance.specs.Steps.{contents_in, Told}
 use Rattle.moka_maintenance.specs.Upkeep.{SetsNoTimer}
 use Rattle.moka_maintenance.proofs.choice.expel_front.Given as goal

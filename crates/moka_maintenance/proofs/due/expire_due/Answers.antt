@@ -3,7 +3,7 @@ use Rattle.std.specs.FinMap as finite
 use Rattle.moka_store.specs.Store.{Kept}
 use Rattle.moka_store.proofs.Gets.{get-removed}
 use Rattle.moka_maintenance.specs.Steps.{stock_in}
-use Rattle.moka_maintenance.specs.Sweeps.{ExpiresDue}
+use Rattle.moka_maintenance.specs.Sweep.{ExpiresDue}
 use Rattle.moka_maintenance.specs.Timers.{HasNoneDue}
 use Rattle.moka_maintenance.specs.Upkeep.{Upkeep}
 use Rattle.moka_maintenance.proofs.Expiring.{expires-none, expires-on, expires-few, upkeep-due, fewer-due}

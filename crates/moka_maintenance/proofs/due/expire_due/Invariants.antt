@@ -1,5 +1,5 @@
 use Rattle.moka_maintenance.specs.Steps.{stock_in}
-use Rattle.moka_maintenance.specs.Sweeps.{ExpiresDue}
+use Rattle.moka_maintenance.specs.Sweep.{ExpiresDue}
 use Rattle.moka_maintenance.specs.Upkeep.{Upkeep}
 use Rattle.moka_maintenance.proofs.Expiring.{how_many_due}
 use Rattle.moka_maintenance.proofs.due.expire_due.Given as goal

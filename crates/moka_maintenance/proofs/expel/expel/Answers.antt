@@ -5,7 +5,7 @@ use Rattle.moka_records.specs.declared.records.Record.{Record}
 use Rattle.moka_parts.specs.Notices.{when_listening}
 use Rattle.moka_parts.specs.Surroundings.{Heard}
 use Rattle.moka_store.specs.Store.{Kept}
-use Rattle.moka_maintenance.specs.Expelled.{without_record}
+use Rattle.moka_maintenance.specs.Expel.{without_record}
 use Rattle.moka_maintenance.specs.Steps.{stock_in}
 use Rattle.moka_maintenance.specs.Upkeep.{SetsNoTimer}
 use Rattle.moka_maintenance.proofs.Upkeep.{untimed-gone}

@@ -1,6 +1,6 @@
 use Rattle.std.proofs.Common.{◌≤◌, ◌-◌, ◌⊎◌, ℕ, [], refl, sym, subst, ◌∙◌, length}
 use Rattle.std.proofs.lemmas.Bool.{not-true, not-false}
-use Rattle.moka_maintenance.specs.Scanning.{before_cursor, from_cursor}
+use Rattle.moka_maintenance.specs.Scan.{before_cursor, from_cursor}
 use Rattle.moka_maintenance.proofs.Rounds.{IsKnown, before_and_from, round-part, round-whole}
 use Rattle.moka_maintenance.proofs.scan.go_round.Goals as goal
 

@@ -1,5 +1,5 @@
 use Rattle.std.proofs.Common.{◌≡◌, MatchBool, sym, subst, length}
-use Rattle.moka_maintenance.specs.Scanning.{AllDropped}
+use Rattle.moka_maintenance.specs.Scan.{AllDropped}
 use Rattle.moka_maintenance.specs.Steps.{contents_in}
 use Rattle.moka_maintenance.proofs.Scanned.{scanned, scanned-none, none_there, some_there, left_more}
 use Rattle.moka_maintenance.proofs.scan.scan.Goals as goal

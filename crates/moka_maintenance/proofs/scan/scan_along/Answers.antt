@@ -3,7 +3,7 @@ use Rattle.std.specs.List.{IsDistinct}
 use Rattle.moka_store.specs.declared.store.Handle.{Handle}
 use Rattle.moka_records.specs.Records.{counted_of, is_listed}
 use Rattle.moka_store.specs.Store.{Kept, IsPlaced, IsOrdered}
-use Rattle.moka_maintenance.specs.Scanning.{IsWalked}
+use Rattle.moka_maintenance.specs.Scan.{IsWalked}
 use Rattle.moka_maintenance.proofs.Walked.{at_most_one, walked-none, walked-on, walked-cursor, next-ordered, turn_keeps}
 use Rattle.moka_maintenance.proofs.Upkeep.{untimed-none, untimed-on, untimed-moved}
 use Rattle.moka_maintenance.proofs.scan.scan_along.Goals as goal

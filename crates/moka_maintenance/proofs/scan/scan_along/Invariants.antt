@@ -1,7 +1,7 @@
 use Rattle.std.proofs.Common.{◌≡◌, ◌≤◌, ◌-◌, ◌==◌, ℕ, ◌++◌, List, IfSome, option_map, slice_get}
 use Rattle.std.specs.List.{IsDistinct}
 use Rattle.moka_store.specs.Store.{IsOrdered}
-use Rattle.moka_maintenance.specs.Scanning.{IsWalked}
+use Rattle.moka_maintenance.specs.Scan.{IsWalked}
 use Rattle.moka_maintenance.specs.Upkeep.{SetsNoTimer}
 use Rattle.moka_maintenance.proofs.scan.scan_along.Given as goal
 

@@ -1,5 +1,5 @@
 use Rattle.std.proofs.Common.{slice_get, ap, ◌∙◌}
-use Rattle.moka_maintenance.specs.Scanning.{from_cursor}
+use Rattle.moka_maintenance.specs.Scan.{from_cursor}
 use Rattle.moka_maintenance.proofs.Rounds.{first_from}
 use Rattle.moka_maintenance.proofs.scan.start_of.Goals as goal
 

@@ -1,5 +1,5 @@
 use Rattle.std.proofs.Common.{false, Some, ap, sym, ◌∙◌, ◌≡◌, ℕ, Bool, true, length, Option, Result, Ok, Err, OnOk, OnErr, if◌then◌else◌}
-use Rattle.moka_parts.specs.Frequency.{size_asked, table_length_for, Table, no_counts}
+use Rattle.moka_parts.specs.Frequency.{size_asked, table_length_for, SketchTable, no_counts}
 use Rattle.moka_parts.specs.Maintenance.{is_sketch_due, with_sketch, length_of_new_table}
 use Rattle.moka_types.specs.declared.policy.EvictionPolicy.{EvictionPolicy}
 use Rattle.moka_records.specs.Records.{total_weight}
@@ -17,10 +17,10 @@ module _ {K V : Type 0} (c : Contents K V) (policy : EvictionPolicy) (has_weighe
   not-enabled due = (false, enabled_by false false due)
 
   -- it comes on, with the length asked for unless that was refused
-  enabled : {A E : Type 0} (made : Result A E) (sketch : Option Table) (size : ℕ) → is_sketch_due (Some capacity) policy c.sketch (total_weight c.access) ≡ true → table_length_for size ≡ table_length_for (size_asked has_weigher capacity (length c.access) (total_weight c.access))
+  enabled : {A E : Type 0} (made : Result A E) (sketch : Option SketchTable) (size : ℕ) → is_sketch_due (Some capacity) policy c.sketch (total_weight c.access) ≡ true → table_length_for size ≡ table_length_for (size_asked has_weigher capacity (length c.access) (total_weight c.access))
       → OnOk made (sketch ≡ Some (no_counts (table_length_for size))) → OnErr made (sketch ≡ Some (no_counts 128)) → (is_short : Bool) × ((record c { sketch = sketch }) ≡ with_sketch o policy has_weigher is_short c)
-  enabled (Ok a) sketch size due same ok err = (false, ap (λ (t : Option Table). record c { sketch = t }) (ok ∙ ap (λ n. Some (no_counts n)) same) ∙ enabled_by false true due)
-  enabled (Err e) sketch size due same ok err = (true, ap (λ (t : Option Table). record c { sketch = t }) err ∙ enabled_by true true due)
+  enabled (Ok a) sketch size due same ok err = (false, ap (λ (t : Option SketchTable). record c { sketch = t }) (ok ∙ ap (λ n. Some (no_counts n)) same) ∙ enabled_by false true due)
+  enabled (Err e) sketch size due same ok err = (true, ap (λ (t : Option SketchTable). record c { sketch = t }) err ∙ enabled_by true true due)
 
 pub returns-in_default : goal.returns-in_default
 returns-in_default g c = (false, sym (ap (λ o. with_sketch o c.args.bounds.policy c.args.bounds.has_weigher false (contents_with c.args.sketch.now c.args.store.now)) c.in_default.is))

@@ -1,5 +1,5 @@
 use Rattle.std.proofs.Common.{◌≡◌, ℕ, ◌/◌, ◌<◌, ◌≤◌, length, get_or}
-use Rattle.moka_sketch.specs.Packing.{counter_at}
+use Rattle.moka_sketch.specs.Words.{counter_at}
 use Rattle.moka_sketch.proofs.words.halve_all.Given as goal
 
 abbrev pub invariant-loop-word : goal.invariant-loop-word

@@ -1,7 +1,7 @@
 use Rattle.std.proofs.Common.{ap, ◌∙◌, arith}
 use Rattle.std.specs.FinMap.{get, len}
 use Rattle.moka_store.proofs.Gets.{len-inserted, len-kept, len-removed, len-some}
-use Rattle.moka_wheel.specs.Wheel.{Timer}
+use Rattle.moka_wheel.specs.TimerWheel.{Timer}
 use Rattle.moka_table.proofs.TableMaps.{made-of}
 use Rattle.moka_store.proofs.timers.set_in.Goals as goal
 

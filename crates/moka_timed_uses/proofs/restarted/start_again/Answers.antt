@@ -2,7 +2,7 @@ use Rattle.std.proofs.Common.{◌≡◌, ◌==◌, ◌∙◌, None, Some, ap, sy
 use Rattle.std.specs.Duration.{as_nanos}
 use Rattle.std.specs.FinMap.{empty}
 use Rattle.moka_engine.specs.Config.{Config}
-use Rattle.moka_cache.specs.Saved.{HasRoomFor}
+use Rattle.moka_cache.specs.Saves.{HasRoomFor}
 use Rattle.moka_uses.specs.Made.{IsNew, plain_meaning}
 use Rattle.moka_timed_uses.specs.Restarted.{ArePutBack}
 use Rattle.moka_timed_uses.proofs.Among.{among_all, all_back}

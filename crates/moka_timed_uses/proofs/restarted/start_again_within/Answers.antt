@@ -2,7 +2,7 @@ use Rattle.std.proofs.Common.{◌≡◌, ◌==◌, ◌∙◌, ◌≤◌, ℕ, fa
 use Rattle.std.specs.Duration.{as_nanos}
 use Rattle.std.specs.FinMap.{empty}
 use Rattle.std.specs.Prelude.{length}
-use Rattle.moka_cache.specs.Saved.{WeighAtMost}
+use Rattle.moka_cache.specs.Saves.{WeighAtMost}
 use Rattle.moka_engine.specs.Config.{Config}
 use Rattle.moka_engine.specs.State.{is_disabled}
 use Rattle.moka_engine.specs.declared.NoWeigher.{NoWeigher}

@@ -4,7 +4,7 @@ use Rattle.moka_types.specs.declared.error.OutOfMemory.{OutOfMemory}
 use Rattle.moka_records.specs.Hashing.{key_hash}
 use Rattle.moka_records.proofs.Options.{none_by_test}
 use Rattle.moka_calls.specs.declared.compute.CompResult.TheVariants.{StillNone, Unchanged}
-use Rattle.moka_calls.specs.Computing.{Computed, HandsOutComputedPut, HandsOutLeft, Left, LeftNone, Puts, Takes}
+use Rattle.moka_calls.specs.Compute.{Computed, HandsOutComputedPut, HandsOutLeft, Left, LeftNone, Puts, Takes}
 use Rattle.moka_calls.specs.Synchronous.{GetsValue}
 use Rattle.moka_cache.proofs.Computing.{computed_put, computed_take, heard, put_not_told, refused_put, refused_take, was_seen}
 use Rattle.moka_cache.proofs.Settings.{kept_by_get}

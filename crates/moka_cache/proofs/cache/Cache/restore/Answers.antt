@@ -4,7 +4,7 @@ use Rattle.std.specs.Vec.Iter.{into_iter_items}
 use Rattle.std.proofs.lemmas.List.{nil_from_length}
 use Rattle.moka_parts.specs.Settling.{IsValid}
 use Rattle.moka_records.specs.Hashing.{key_hash}
-use Rattle.moka_cache.specs.Saved.{AddsOnly, IsRestored, IsRoomyFor, TakesOnlyExpired, has_expired}
+use Rattle.moka_cache.specs.Saves.{AddsOnly, IsRestored, IsRoomyFor, TakesOnlyExpired, has_expired}
 use Rattle.moka_cache.proofs.Alike.{itself, then}
 use Rattle.moka_cache.proofs.Lasting.{keeps_itself, keeps_then}
 use Rattle.moka_cache.proofs.Restoring.{adds_nothing, adds_then, put_next}

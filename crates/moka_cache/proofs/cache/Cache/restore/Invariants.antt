@@ -2,7 +2,7 @@ use Rattle.std.proofs.Common.{◌≡◌, List, ◌++◌}
 use Rattle.std.specs.Vec.Iter.{into_iter_items, into_iter_len}
 use Rattle.moka_engine.specs.parts.Restored.{Restored}
 use Rattle.moka_records.specs.Hashing.{key_hash}
-use Rattle.moka_cache.specs.Saved.{AddsOnly, IsRoomyFor, PutsAllBack, TakesOnlyExpired}
+use Rattle.moka_cache.specs.Saves.{AddsOnly, IsRoomyFor, PutsAllBack, TakesOnlyExpired}
 use Rattle.moka_calls.specs.Synchronous.{meaning_of}
 use Rattle.moka_cache.specs.Unsent.{HidesNoMore}
 use Rattle.moka_cache.proofs.There.{HaveRecords}

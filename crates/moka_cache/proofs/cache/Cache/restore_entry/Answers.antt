@@ -5,7 +5,7 @@ use Rattle.moka_records.specs.declared.records.Operation.{Operation}
 use Rattle.moka_records.specs.declared.records.Operation.TheVariants.{Upsert}
 use Rattle.moka_records.specs.Hashing.{key_hash}
 use Rattle.moka_parts.specs.State.{is_disabled}
-use Rattle.moka_cache.specs.Saved.{TakesOnlyExpired}
+use Rattle.moka_cache.specs.Saves.{TakesOnlyExpired}
 use Rattle.moka_cache.specs.Unsent.{HidesNoMore}
 use Rattle.moka_cache.proofs.Alike.{then}
 use Rattle.moka_cache.proofs.Lasting.{keeps_itself, keeps_then}

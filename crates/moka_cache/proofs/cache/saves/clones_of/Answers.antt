@@ -1,5 +1,5 @@
 use Rattle.std.proofs.Common.{List, sym, subst, []}
-use Rattle.moka_engine.specs.Snapshots.{Scene}
+use Rattle.moka_engine.specs.Snapshot.{Scene}
 use Rattle.moka_engine.specs.parts.Restored.{Restored}
 use Rattle.moka_cache.proofs.Saving.{SavesTo, saves_first, saves_one, saves_all}
 use Rattle.moka_cache.proofs.cache.saves.clones_of.Goals as goal

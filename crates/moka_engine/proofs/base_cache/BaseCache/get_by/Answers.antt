@@ -1,7 +1,7 @@
 use Rattle.std.proofs.Common.{ap, ◌∙◌}
 use Rattle.moka_records.specs.KeyTests.{record_by}
 use Rattle.moka_store.specs.Hashing.{index_hash}
-use Rattle.moka_lookups.specs.Looks.{value_of}
+use Rattle.moka_lookups.specs.Gets.{value_of}
 use Rattle.moka_lookups.proofs.FindSteps.{ignores_nothing}
 use Rattle.moka_engine.proofs.base_cache.BaseCache.get_by.Goals as goal
 

@@ -5,7 +5,7 @@ use Rattle.moka_records.specs.KeyTests.{record_by}
 use Rattle.moka_records.proofs.Tested.{record_by_found, record_by_key}
 use Rattle.moka_store.specs.Store.{Kept}
 use Rattle.moka_inner.specs.Interior.{Interior}
-use Rattle.moka_lookups.specs.Looks.{entry_at}
+use Rattle.moka_lookups.specs.Gets.{entry_at}
 use Rattle.moka_engine.proofs.EngineSteps.{number-inside}
 use Rattle.moka_engine.proofs.GetSteps.{IsNoted, whole-noted, whole-queued, number-read, get_misses, get_hits, queues_read, get_refused}
 use Rattle.moka_engine.proofs.base_cache.BaseCache.get_hashed.Given.{Over}

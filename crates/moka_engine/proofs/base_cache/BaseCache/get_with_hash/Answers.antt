@@ -1,5 +1,5 @@
 use Rattle.moka_records.specs.Records.{record_of_key}
-use Rattle.moka_lookups.specs.Looks.{value_of}
+use Rattle.moka_lookups.specs.Gets.{value_of}
 use Rattle.moka_lookups.proofs.FindSteps.{ignores_nothing}
 use Rattle.moka_engine.proofs.base_cache.BaseCache.get_with_hash.Goals as goal
 

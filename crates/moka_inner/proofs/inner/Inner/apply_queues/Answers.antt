@@ -2,7 +2,7 @@ use Rattle.std.proofs.Common.{◌+◌, ap, subst}
 use Rattle.moka_store.specs.Store.{Kept}
 use Rattle.moka_parts.specs.Reads.{after_reads}
 use Rattle.moka_maintenance.specs.Queued.{read_of, writes_of}
-use Rattle.moka_maintenance.specs.Queues.{AreApplied, ArePrepared}
+use Rattle.moka_maintenance.specs.Admission.{AreApplied, ArePrepared}
 use Rattle.moka_maintenance.specs.Steps.{contents_with}
 use Rattle.moka_maintenance.specs.Timers.{KeepsTimers}
 use Rattle.moka_maintenance.proofs.Timing.{keeps-on}

@@ -1,6 +1,6 @@
 use Rattle.std.proofs.Common.{◌+◌, subst}
 use Rattle.moka_maintenance.specs.Steps.{MayRun}
-use Rattle.moka_maintenance.specs.Sweeps.{tests_in}
+use Rattle.moka_maintenance.specs.Sweep.{tests_in}
 use Rattle.moka_maintenance.specs.Timers.{KeepsTimers}
 use Rattle.moka_inner.specs.Interior.{Interior}
 use Rattle.moka_inner.proofs.InnerLemmas.{inner-passed}

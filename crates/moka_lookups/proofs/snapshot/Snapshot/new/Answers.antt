@@ -1,6 +1,6 @@
 use Rattle.std.proofs.Common.{List, ap}
 use Rattle.moka_records.specs.declared.records.Member.{Member}
-use Rattle.moka_lookups.specs.Snapshots.{Scene, scene_from}
+use Rattle.moka_lookups.specs.Snapshot.{Scene, scene_from}
 use Rattle.moka_lookups.proofs.Passing.{starts}
 use Rattle.moka_lookups.proofs.snapshot.Snapshot.new.Goals as goal
 

@@ -1,5 +1,5 @@
 use Rattle.std.proofs.Common.{refl, ◌∙◌}
-use Rattle.moka_lookups.specs.Snapshots.{Scene, scene_at}
+use Rattle.moka_lookups.specs.Snapshot.{Scene, scene_at}
 use Rattle.moka_lookups.proofs.Passing.{lists_found}
 use Rattle.moka_lookups.proofs.snapshot.SnapshotIterator.next.Goals as goal
 

@@ -1,7 +1,7 @@
 use Rattle.std.proofs.Common.{◌∙◌, ℕ, List, Some, ap, arith}
 use Rattle.std.proofs.lemmas.Result.{on_ok_weaker, on_err_weaker}
 use Rattle.moka_parts.specs.Frequency.{no_counts}
-use Rattle.moka_sketch.specs.Packing.{table_of}
+use Rattle.moka_sketch.specs.Words.{table_of}
 use Rattle.moka_sketch.proofs.Counters.{table_of-zeros}
 use Rattle.moka_sketch.proofs.frequency_sketch.FrequencySketch.ensure_capacity.Goals as goal
 

@@ -2,7 +2,7 @@ use Rattle.std.proofs.Common.{◌≡◌, ◌∙◌, ℕ, List, length, Some, ap,
 use Rattle.std.proofs.lemmas.List.{with_items_is}
 use Rattle.std.proofs.lemmas.List.Sums.{fold_push}
 use Rattle.moka_parts.specs.Frequency.{counted_once, incremented, no_counts}
-use Rattle.moka_sketch.specs.Packing.{table_of}
+use Rattle.moka_sketch.specs.Words.{table_of}
 use Rattle.moka_sketch.proofs.frequency_sketch.FrequencySketch.increment.Goals as goal
 
 pub invariant_of-self : goal.invariant_of-self

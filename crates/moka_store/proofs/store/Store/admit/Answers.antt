@@ -3,12 +3,12 @@ use Rattle.std.proofs.Common.{◌<◌, ◌^◌, ◌≡◌, ◌+◌, map, length,
 use Rattle.moka_store.proofs.Members.{counted-admitted}
 use Rattle.std.specs.Option.{option_map, option_and_then}
 use Rattle.moka_table.specs.declared.table.membership.Membership.{Membership}
-use Rattle.moka_store.specs.StoreRows.{access_in, written_in, member_at}
+use Rattle.moka_store.specs.Rows.{access_in, written_in, member_at}
 use Rattle.moka_store.proofs.Slots.{slots-below}
 use Rattle.moka_store.proofs.Orders.{enters}
 use Rattle.moka_store.proofs.Fitting.{few_enough, listed_fits, node_fits, one_more_node, still_fit}
 use Rattle.moka_store.proofs.Steps.{placed, unlisted, admitted}
-use Rattle.moka_store.specs.Listing.{Listing}
+use Rattle.moka_store.specs.WriteList.{Listing}
 use Rattle.moka_store.specs.Weights.{IsWeighed}
 use Rattle.moka_store.proofs.Weights.{weighed-pushed, weighed-fits}
 use Rattle.moka_records.specs.Records.{counted_of}

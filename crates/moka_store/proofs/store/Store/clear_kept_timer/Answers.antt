@@ -7,7 +7,7 @@ use Rattle.moka_store.proofs.Orders.{untimes}
 use Rattle.moka_store.proofs.Steps.{placed, retimed}
 use Rattle.moka_store.proofs.Timed.{timer-held}
 use Rattle.moka_store.proofs.Fitting.{still_fit}
-use Rattle.moka_store.specs.Timing.{Timing}
+use Rattle.moka_store.specs.Timers.{Timing}
 use Rattle.moka_store.specs.Weights.{IsWeighed}
 use Rattle.moka_store.specs.StoreTies.{AreNarrow}
 use Rattle.moka_store.proofs.store.Store.clear_kept_timer.Goals as goal

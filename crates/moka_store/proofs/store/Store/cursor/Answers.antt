@@ -1,7 +1,7 @@
 use Rattle.std.proofs.Common.{Some, refl, sym, ap, ◌∙◌}
 use Rattle.moka_store.proofs.Orders.{written-place, written-handle}
 use Rattle.moka_store.proofs.Written.{cursor-none, cursor-some}
-use Rattle.moka_store.specs.StoreRows.{cursor_of}
+use Rattle.moka_store.specs.Rows.{cursor_of}
 use Rattle.moka_store.proofs.store.Store.cursor.Goals as goal
 
 pub returns-in_err-place-clause-cursor : goal.returns-in_err-place-clause-cursor

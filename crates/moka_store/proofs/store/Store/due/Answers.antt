@@ -5,7 +5,7 @@ use Rattle.moka_table.proofs.TableCalls.{get-places}
 use Rattle.moka_store.proofs.Steps.{retimed}
 use Rattle.moka_store.proofs.Timed.{all-ahead, timer-row}
 use Rattle.moka_store.proofs.Fitting.{still_fit}
-use Rattle.moka_store.specs.Timing.{Timing}
+use Rattle.moka_store.specs.Timers.{Timing}
 use Rattle.moka_store.specs.Weights.{IsWeighed}
 use Rattle.moka_store.specs.StoreTies.{AreNarrow}
 use Rattle.moka_store.proofs.store.Store.due.Goals as goal

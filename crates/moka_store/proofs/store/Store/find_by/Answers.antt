@@ -3,7 +3,7 @@ use Rattle.moka_records.proofs.Lookup.{present_key}
 use Rattle.moka_records.proofs.Tested.{record_by_key}
 use Rattle.moka_table.proofs.TableCalls.{get-records, get-places}
 use Rattle.moka_table.specs.RecordTable.{records_of, stored_at}
-use Rattle.moka_store.specs.StoreRows.{passes_at}
+use Rattle.moka_store.specs.Rows.{passes_at}
 use Rattle.moka_store.proofs.Steps.{record-of-absent, one-each}
 use Rattle.moka_store.proofs.Looked.{live-row, stored_passes}
 use Rattle.moka_store.proofs.store.Store.find_by.Goals as goal

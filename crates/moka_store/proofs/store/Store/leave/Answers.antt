@@ -6,9 +6,9 @@ use Rattle.moka_store.proofs.Orders.{leaves}
 use Rattle.moka_store.proofs.Fitting.{one_node_less, still_fit}
 use Rattle.moka_store.proofs.Steps.{placed, member-there, member-row, member-node, member-slot, left}
 use Rattle.moka_store.proofs.Timed.{timer-free}
-use Rattle.moka_store.specs.Listing.{Listing}
+use Rattle.moka_store.specs.WriteList.{Listing}
 use Rattle.moka_store.specs.Store.{Kept, cursor_past}
-use Rattle.moka_store.specs.StoreRows.{member_at}
+use Rattle.moka_store.specs.Rows.{member_at}
 use Rattle.moka_store.specs.Weights.{IsWeighed}
 use Rattle.moka_store.proofs.Weights.{weighed-without, weighed-least}
 use Rattle.moka_records.specs.Records.{counted_of, without_member, without_number}

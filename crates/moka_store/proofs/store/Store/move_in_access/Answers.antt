@@ -1,7 +1,7 @@
 use Rattle.std.proofs.Common.{map, refl, sym, ◌∙◌, subst}
 use Rattle.moka_records.proofs.AccessList.{counted-to_back}
 use Rattle.moka_store.proofs.Steps.{member-there, member-row, member-node, moved}
-use Rattle.moka_store.specs.StoreRows.{member_at}
+use Rattle.moka_store.specs.Rows.{member_at}
 use Rattle.moka_store.specs.Weights.{IsWeighed}
 use Rattle.moka_store.proofs.Weights.{weighed-to_back}
 use Rattle.moka_store.proofs.Fitting.{still_fit}

@@ -1,11 +1,11 @@
 use Rattle.std.proofs.Common.{map, refl, sym, ◌∙◌, subst, ap}
 use Rattle.std.specs.Option.{option_and_then}
 use Rattle.moka_table.specs.declared.table.membership.Membership.{Membership}
-use Rattle.moka_store.specs.Listing.{Listing}
+use Rattle.moka_store.specs.WriteList.{Listing}
 use Rattle.moka_store.proofs.Orders.{moves}
 use Rattle.moka_records.proofs.AccessList.{counted-to_back}
 use Rattle.moka_store.proofs.Steps.{member-there, member-row, member-node, member-slot, moved}
-use Rattle.moka_store.specs.StoreRows.{member_at}
+use Rattle.moka_store.specs.Rows.{member_at}
 use Rattle.moka_store.specs.Weights.{IsWeighed}
 use Rattle.moka_store.proofs.Weights.{weighed-to_back}
 use Rattle.moka_store.proofs.Fitting.{still_fit}

@@ -2,10 +2,10 @@ use Rattle.std.specs.FinMap as finite
 use Rattle.std.specs.Ordering.{nat_cmp}
 use Rattle.std.proofs.Common.{◌≡◌, ℕ, None, Some, ap, arith, refl, sym, ◌∙◌}
 use Rattle.moka_store.proofs.Weights.{weighed-empty}
-use Rattle.moka_store.specs.Listing.{Listing}
-use Rattle.moka_store.specs.Timing.{Timing}
+use Rattle.moka_store.specs.WriteList.{Listing}
+use Rattle.moka_store.specs.Timers.{Timing}
 use Rattle.moka_store.proofs.Orders.{written-empty, timed-empty}
-use Rattle.moka_store.specs.StoreRows.{written_of, cursor_of, timers_of}
+use Rattle.moka_store.specs.Rows.{written_of, cursor_of, timers_of}
 use Rattle.moka_store.proofs.Steps.{tied-empty}
 use Rattle.moka_store.proofs.store.Store.new.Goals as goal
 

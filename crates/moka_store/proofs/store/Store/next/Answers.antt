@@ -2,7 +2,7 @@ use Rattle.std.proofs.Common.{◌≡◌, Some, refl, sym, ap, ◌∙◌}
 use Rattle.std.specs.Option.{option_map}
 use Rattle.moka_store.proofs.Ties.{after-row}
 use Rattle.moka_store.proofs.Steps.{node-member, member-there, member-row, member-node}
-use Rattle.moka_store.specs.StoreRows.{member_at}
+use Rattle.moka_store.specs.Rows.{member_at}
 use Rattle.moka_records.specs.declared.records.Member.{Member}
 use Rattle.moka_store.proofs.store.Store.next.Goals as goal
 

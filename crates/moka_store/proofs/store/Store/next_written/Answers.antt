@@ -3,7 +3,7 @@ use Rattle.std.specs.Option.{option_and_then}
 use Rattle.moka_store.proofs.Orders.{slot-there, written-place, written-handle}
 use Rattle.moka_store.proofs.Steps.{placed}
 use Rattle.moka_store.proofs.Written.{number-next}
-use Rattle.moka_store.specs.StoreRows.{written_in}
+use Rattle.moka_store.specs.Rows.{written_in}
 use Rattle.moka_store.proofs.store.Store.next_written.Goals as goal
 
 pub next-requires : goal.next-requires

@@ -2,12 +2,12 @@ use Rattle.std.specs.FinMap as finite
 use Rattle.std.proofs.Common.{◌<◌, ◌^◌, ◌-◌, ◌+◌, map, refl, sym, ◌∙◌, arith, ap, subst, Some, is_some}
 use Rattle.std.specs.Option.{option_and_then}
 use Rattle.moka_table.specs.declared.table.membership.Membership.{Membership}
-use Rattle.moka_store.specs.Listing.{Listing}
+use Rattle.moka_store.specs.WriteList.{Listing}
 use Rattle.moka_store.proofs.Orders.{stays-row, moves}
 use Rattle.moka_store.proofs.Fitting.{few_enough, still_fit}
 use Rattle.moka_store.proofs.Members.{counted-recounted}
 use Rattle.moka_store.proofs.Steps.{member-there, member-row, member-node, member-slot, recounted}
-use Rattle.moka_store.specs.StoreRows.{member_at}
+use Rattle.moka_store.specs.Rows.{member_at}
 use Rattle.moka_store.specs.Weights.{IsWeighed}
 use Rattle.moka_store.proofs.Weights.{weighed-recounted, weighed-least, weighed-fits}
 use Rattle.moka_records.specs.Records.{counted_of}

@@ -3,9 +3,9 @@ use Rattle.std.proofs.lemmas.Result.{on_ok_weaker}
 use Rattle.moka_store.proofs.Orders.{written-grown}
 use Rattle.moka_store.proofs.Steps.{store-grown}
 use Rattle.moka_store.proofs.Slots.{slots-within}
-use Rattle.moka_store.specs.StoreRows.{access_in}
+use Rattle.moka_store.specs.Rows.{access_in}
 use Rattle.moka_store.specs.StoreTies.{IsTimed}
-use Rattle.moka_store.specs.Timing.{Timing}
+use Rattle.moka_store.specs.Timers.{Timing}
 use Rattle.moka_store.proofs.store.Store.reserve.Goals as goal
 
 pub invariant_of-self-in_err-reserve : goal.invariant_of-self-in_err-reserve

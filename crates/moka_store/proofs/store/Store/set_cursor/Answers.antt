@@ -3,7 +3,7 @@ use Rattle.std.specs.Option.{option_map, option_and_then}
 use Rattle.moka_records.specs.Records.{is_listed}
 use Rattle.moka_store.proofs.Steps.{placed}
 use Rattle.moka_store.proofs.Written.{cursor-none, cursor-at}
-use Rattle.moka_store.specs.StoreRows.{written_in, written_of}
+use Rattle.moka_store.specs.Rows.{written_in, written_of}
 use Rattle.moka_store.proofs.store.Store.set_cursor.Goals as goal
 
 pub returns-in_default : goal.returns-in_default

@@ -11,8 +11,8 @@ use Rattle.moka_store.proofs.Orders.{times, timer-room, member-of}
 use Rattle.moka_store.proofs.Fitting.{still_fit, timed_fit}
 use Rattle.moka_store.proofs.Steps.{handled, retimed}
 use Rattle.moka_store.proofs.Timed.{timer-held}
-use Rattle.moka_store.specs.Timing.{Timing}
-use Rattle.moka_store.specs.StoreRows.{member_at}
+use Rattle.moka_store.specs.Timers.{Timing}
+use Rattle.moka_store.specs.Rows.{member_at}
 use Rattle.moka_store.specs.Weights.{IsWeighed}
 use Rattle.moka_store.specs.StoreTies.{AreNarrow}
 use Rattle.moka_store.proofs.store.Store.set_kept_timer.Goals as goal

@@ -3,7 +3,7 @@ use Rattle.std.proofs.lemmas.List.{get_or_append_left, length_push}
 use Rattle.std.specs.Map.{lookup}
 use Rattle.moka_links.specs.declared.Node.{Node}
 use Rattle.moka_structures.specs.Links.{befores, blank}
-use Rattle.moka_structures.specs.Order.{Order}
+use Rattle.moka_structures.specs.OrderList.{Order}
 use Rattle.moka_structures.proofs.Orders.{reused, appended, free-fresh, free-positive, new-fresh, fits, last-any, length-members, distinct-members}
 use Rattle.moka_structures.proofs.Lookups.{lookup-pushed}
 use Rattle.moka_structures.proofs.order_list.OrderList.push_back.Goals as goal

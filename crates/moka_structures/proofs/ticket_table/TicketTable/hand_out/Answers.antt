@@ -1,6 +1,6 @@
 use Rattle.std.proofs.Common.{ℕ, ◌<◌, IsSome, refl}
 use Rattle.std.specs.FinMap as map
-use Rattle.moka_structures.specs.Tickets.{items_of}
+use Rattle.moka_structures.specs.TicketTable.{items_of}
 use Rattle.moka_structures.proofs.Tickets.{tied-handed, items-put}
 use Rattle.moka_structures.proofs.ticket_table.TicketTable.hand_out.Goals as goal
 

@@ -2,7 +2,7 @@ use Rattle.std.proofs.Common.{ℕ, Option, Some, None, sym, ap, ◌∙◌, ◌�
 use Rattle.std.specs.Option.{option_map, option_map_or, option_and_then}
 use Rattle.moka_records.specs.RecordParts.{joined}
 use Rattle.moka_table.specs.RecordTable.{Row, number_at, stored_at}
-use Rattle.moka_table.specs.ColdParts.{cold_at}
+use Rattle.moka_table.specs.Rows.{cold_at}
 use Rattle.moka_table.proofs.ColdRows.{stored-whole, number_at-whole, stored-lent}
 use Rattle.moka_table.proofs.table.RecordTable.live.Goals as goal
 

@@ -1,7 +1,7 @@
 use Rattle.std.proofs.Common.{arith, Some, None, sym, ap, ◌∙◌, ◌≡◌, is_some}
 use Rattle.std.specs.Option.{option_map, option_and_then}
 use Rattle.moka_table.specs.RecordTable.{membership_at}
-use Rattle.moka_table.specs.ColdParts.{cold_at}
+use Rattle.moka_table.specs.Rows.{cold_at}
 use Rattle.moka_table.specs.Slots.{counted_as}
 use Rattle.moka_table.proofs.ColdRows.{membership-whole, counted-read, place_within}
 use Rattle.moka_table.proofs.TableCalls.{member_row}

@@ -5,7 +5,7 @@ use Rattle.moka_records.specs.declared.record_ref.Cold.{Cold}
 use Rattle.moka_records.specs.declared.records.Record.{Record}
 use Rattle.moka_table.specs.RecordTable.{number_at}
 use Rattle.moka_table.specs.States.{touched}
-use Rattle.moka_table.specs.ColdParts.{cold_at}
+use Rattle.moka_table.specs.Rows.{cold_at}
 use Rattle.moka_table.proofs.ColdRows.{same-table, keeps-stored, stored_within, stored-whole, record_parts, cold-read, counted-read, expiring-is, joined-renewed, joined-read, stored-beside, stored-table, front-beside, front-table}
 use Rattle.moka_table.proofs.TableCalls.{stored_row}
 use Rattle.moka_table.proofs.table.RecordTable.touch.Goals as goal

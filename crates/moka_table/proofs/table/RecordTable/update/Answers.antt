@@ -4,7 +4,7 @@ use Rattle.moka_records.specs.declared.record_ref.Cold.{Cold}
 use Rattle.moka_records.specs.RecordParts.{joined}
 use Rattle.moka_table.specs.States.{rewritten}
 use Rattle.moka_table.specs.Updates.{updated}
-use Rattle.moka_table.specs.ColdParts.{cold_at}
+use Rattle.moka_table.specs.Rows.{cold_at}
 use Rattle.moka_table.proofs.ColdRows.{same-table, keeps-stored, stored_within, record_parts, cold-read, counted-read, joined-updated, stored-beside, stored-table, row_whole}
 use Rattle.moka_table.proofs.TableCalls.{stored_row}
 use Rattle.moka_table.proofs.table.RecordTable.update.Goals as goal

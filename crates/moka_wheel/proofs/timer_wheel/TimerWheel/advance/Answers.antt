@@ -1,7 +1,7 @@
 use Rattle.std.proofs.Common.{◌≡◌, ◌-◌, None, cond, nat_eq, min, vec_capacity, option_map, unwrap_or, sym, ap, ◌∙◌}
 use Rattle.std.proofs.lemmas.List.{get_or_read}
 use Rattle.std.specs.FinMap.{get, remove}
-use Rattle.moka_wheel.specs.Wheel.{Timer, Timers}
+use Rattle.moka_wheel.specs.TimerWheel.{Timer, Timers}
 use Rattle.moka_wheel.specs.Nodes.{Node, blank, numbers, timers_of}
 use Rattle.moka_wheel.proofs.Maps.{keeps-timers}
 use Rattle.moka_wheel.proofs.Upkeep.{timer-is, timer-some, later-timer, due-timer, keeps-wheel}

@@ -1,5 +1,5 @@
 use Rattle.std.proofs.Common.{Some, option_map, arith, sym, ap, ◌∙◌}
-use Rattle.moka_wheel.specs.Wheel.{Timer}
+use Rattle.moka_wheel.specs.TimerWheel.{Timer}
 use Rattle.moka_wheel.proofs.Maps.{takes-timers, take-lookup}
 use Rattle.moka_wheel.proofs.Upkeep.{is-timer, timer-is, some-timer, release-wheel}
 use Rattle.moka_wheel.proofs.timer_wheel.TimerWheel.deschedule.Goals as goal

@@ -1,6 +1,6 @@
 use Rattle.std.proofs.Common.{◌≡◌, cond, nat_eq, option_map, unwrap_or, arith, sym, ap, ◌∙◌}
 use Rattle.std.specs.FinMap.{get, insert}
-use Rattle.moka_wheel.specs.Wheel.{Timer}
+use Rattle.moka_wheel.specs.TimerWheel.{Timer}
 use Rattle.moka_wheel.specs.Nodes.{numbers, timers_of}
 use Rattle.moka_wheel.proofs.Maps.{puts-timers, put-lookup}
 use Rattle.moka_wheel.proofs.Upkeep.{is-timer, timer-is, reset-wheel}

@@ -5,8 +5,8 @@ use Rattle.std.specs.FinMap as finite
 use Rattle.std.specs.FinMap.{FinMap, empty, get, len}
 use Rattle.std.specs.Option.{option_map}
 use Rattle.std.specs.Ordering.{nat_cmp}
-use Rattle.moka_wheel.specs.Wheel.{Timer, timer_code}
-use Rattle.moka_wheel.specs.Wheel as wheel
+use Rattle.moka_wheel.specs.TimerWheel.{Timer, timer_code}
+use Rattle.moka_wheel.specs.TimerWheel as wheel
 
 -- the timers by their slots, each with a place, how many fit with no memory, and whether timers are kept at all
 pub record Timing : Type 0 where

@@ -1,7 +1,7 @@
 -- What a contract sees of a `WriteList`. No public clause cites this module.
 use Rattle.std.specs.Prelude.{◌≡◌, ℕ, ◌+◌, ◌^◌, Bool, true, false, nat_eq, if◌then◌else◌, Option, Some, None, List, [], length}
 use Rattle.std.specs.Map.{lookup}
-use Rattle.moka_structures.specs.Order.{Order, next_after}
+use Rattle.moka_structures.specs.OrderList.{Order, next_after}
 
 -- the nodes from the front to the back, each its slot and its place, the node of the cursor, how many places fit with
 -- no memory, and whether the order is kept at all

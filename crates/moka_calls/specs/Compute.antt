@@ -20,7 +20,7 @@ use Rattle.moka_calls.specs.declared.entry.CacheEntry.{CacheEntry}
 use Rattle.moka_calls.specs.declared.error.GetWithRefused.{GetWithRefused}
 use Rattle.moka_calls.specs.declared.error.GetWithRefused.TheVariants as get_with_refused
 use Rattle.moka_parts.specs.Counters.{after_look_up}
-use Rattle.moka_calls.specs.Entries.{IsFound, IsFresh}
+use Rattle.moka_calls.specs.Entry.{IsFound, IsFresh}
 use Rattle.moka_calls.specs.Given.{Sees, ComesBack}
 use Rattle.moka_calls.specs.Synchronous.{Synchronous, Makes, GetsValue, InsertsMade, RemovesEntry}
 

@@ -15,7 +15,7 @@ use Rattle.moka_parts.specs.Maintenance.{Choice, Removes, MovesToBack, Drops, Te
 use Rattle.moka_parts.specs.Grounds.{AreDrops, EndsScan}
 use Rattle.moka_parts.specs.Scan.{AreUncovered}
 use Rattle.moka_store.specs.Store.{Kept}
-use Rattle.moka_maintenance.specs.Expelled.{Expels}
+use Rattle.moka_maintenance.specs.Expel.{Expels}
 use Rattle.moka_maintenance.specs.Steps.{Stock, contents_in, stock_in, AreAllMembers, HasNoSettled, IsStepped}
 use Rattle.moka_maintenance.specs.Upkeep.{SetsNoTimer}
 

@@ -13,8 +13,8 @@ abbrev pub items_of : {T S : Type 0} → HashMap ℕ (Waiting T) S → FinMap na
 items_of m = from_entries (map (λ e. (e.0, e.1.item)) m.entries)
 
 -- the slot that is kept for a ticket
-abbrev pub slot_of : {T S : Type 0} → HashMap ℕ (Waiting T) S → ℕ → Option ℕ
-slot_of m ticket = option_map (λ w. w.slot) (get nat_eq m ticket)
+abbrev pub slot_under : {T S : Type 0} → HashMap ℕ (Waiting T) S → ℕ → Option ℕ
+slot_under m ticket = option_map (λ w. w.slot) (get nat_eq m ticket)
 
 -- the ticket is below all of these members
 abbrev pub IsBelowAll : ℕ → List (ℕ × ℕ) → Type 0
@@ -22,11 +22,11 @@ IsBelowAll ticket [] = Unit
 IsBelowAll ticket (m ∷ ms) = (ticket < m.1) × IsBelowAll ticket ms
 
 -- each ticket is below all behind it
-abbrev pub AreRising : List (ℕ × ℕ) → Type 0
-AreRising [] = Unit
-AreRising (m ∷ ms) = IsBelowAll m.1 ms × AreRising ms
+abbrev pub TicketsRise : List (ℕ × ℕ) → Type 0
+TicketsRise [] = Unit
+TicketsRise (m ∷ ms) = IsBelowAll m.1 ms × TicketsRise ms
 
 -- the order has the tickets of the table and no others, and they rise
-pub record IsTied {T S : Type 0} (members : List (ℕ × ℕ)) (waiting : HashMap ℕ (Waiting T) S) : Type 0 where
-  pub linked : IsLinked (slot_of waiting) (λ s. lookup (nat_eq s) members)
-  pub rising : AreRising members
+pub record IsTicketTable {T S : Type 0} (members : List (ℕ × ℕ)) (waiting : HashMap ℕ (Waiting T) S) : Type 0 where
+  pub linked : IsLinked (slot_under waiting) (λ s. lookup (nat_eq s) members)
+  pub rising : TicketsRise members

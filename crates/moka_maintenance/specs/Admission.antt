@@ -13,7 +13,7 @@ use Rattle.moka_parts.specs.Writes.{after_fate, left_by_fate, fate_by_frequency,
 use Rattle.moka_parts.specs.Maintenance.{with_sketch}
 use Rattle.moka_parts.specs.Reads.{after_reads}
 use Rattle.moka_parts.specs.Order.{written_after_fate, written_after_write, written_after_writes}
-use Rattle.moka_parts.specs.Frequency.{Table}
+use Rattle.moka_parts.specs.Frequency.{SketchTable}
 use Rattle.moka_store.specs.Store.{Kept}
 use Rattle.moka_maintenance.specs.declared.admission.PlacedUpsert.{PlacedUpsert}
 use Rattle.moka_maintenance.specs.declared.bounds.Bounds.{Bounds}
@@ -82,7 +82,7 @@ abbrev pub LeavesNoRowBy : {K V S : Type 0} → List Ticketed → Kept K V S →
 LeavesNoRowBy os old new = (n p : ℕ) → get new.places n ≡ Some p → get new.records n ≡ None → (get old.records n ≡ None)
     × ((ticket generation : ℕ) → Contains os (record { ticket = ticket; operation = Removal n generation }) → ⊥)
 
-module _ {K V S L : Type 0} (tells : L → K → V → RemovalCause → L → Type 0) (bounds : Bounds) (sketch : Option Table)
+module _ {K V S L : Type 0} (tells : L → K → V → RemovalCause → L → Type 0) (bounds : Bounds) (sketch : Option SketchTable)
     (old new : Kept K V S) where
   -- one operation is applied to a store, whose row is given back if it was a removal
   pub record AppliesWrite (o : Operation) (l m : Option L) : Type 0 where

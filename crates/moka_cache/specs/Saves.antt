@@ -19,7 +19,7 @@ use Rattle.moka_parts.specs.Visibility.{has_lapsed}
 use Rattle.moka_engine.specs.parts.Restored.{Restored}
 use Rattle.moka_engine.specs.parts.RestoreRefused.{RestoreRefused}
 use Rattle.moka_engine.specs.Restores.{RestoreStep}
-use Rattle.moka_engine.specs.Snapshots.{Scene, Seen, IsListed, IsPassed}
+use Rattle.moka_engine.specs.Snapshot.{Scene, Seen, IsListed, IsPassed}
 use Rattle.moka_cache.specs.declared.cache.saves.RestoreManyRefused.{RestoreManyRefused}
 use Rattle.moka_calls.specs.Synchronous.{Makes, Posts}
 

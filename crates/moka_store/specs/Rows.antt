@@ -4,7 +4,7 @@ use Rattle.std.specs.FinMap.{FinMap, get}
 use Rattle.std.specs.Option.{option_map, option_and_then, option_map_or}
 use Rattle.std.specs.Ordering.{nat_cmp}
 use Rattle.moka_table.specs.RecordTable.{Row, row_at, number_at, stored_at, map_of}
-use Rattle.moka_wheel.specs.Wheel.{Timer}
+use Rattle.moka_wheel.specs.TimerWheel.{Timer}
 use Rattle.moka_records.specs.declared.records.Record.{Record}
 use Rattle.moka_records.specs.declared.records.Member.{Member}
 
@@ -34,8 +34,8 @@ module _ {K V : Type 0} where
   written_in row = option_and_then (λ m. m.written) row.membership
 
   -- the slot in the write list of the row at a place
-  abbrev pub written_at : List (Option (Row (Record K V))) → ℕ → Option ℕ
-  written_at rows place = option_and_then written_in (row_at rows place)
+  abbrev pub written_slot_at : List (Option (Row (Record K V))) → ℕ → Option ℕ
+  written_slot_at rows place = option_and_then written_in (row_at rows place)
 
   -- the timer of the row at a place
   abbrev pub timer_at : List (Option (Row (Record K V))) → ℕ → Option ℕ
