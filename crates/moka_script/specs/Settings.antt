@@ -15,13 +15,17 @@ use Rattle.moka_script.specs.Lex.{key_at, number_of, number_or_none, lone_number
 abbrev pub ticket_of : ℕ → Option ℕ
 ticket_of n = if n == 0 then None else Some n
 
--- `keeper LIMIT REPEATS BATCH`
-abbrev pub keeper_of : List (List ℕ) → Option Setting
-keeper_of (limit ∷ repeats ∷ batch ∷ []) = do
+-- the housekeeper's terms that three words say
+abbrev pub keeper_terms : List ℕ → List ℕ → List ℕ → Option Setting
+keeper_terms limit repeats batch = do
   l ← number_of 64 limit
   r ← number_of 32 repeats
   b ← number_of 32 batch
   Some (Keeper (record { limit = l; repeats = r; batch = b }))
+
+-- `keeper LIMIT REPEATS BATCH`
+abbrev pub keeper_of : List (List ℕ) → Option Setting
+keeper_of (limit ∷ repeats ∷ batch ∷ []) = keeper_terms limit repeats batch
 keeper_of _ = None
 
 -- the policy of that name
@@ -77,13 +81,17 @@ question_named name =
     else (if bytes_eq name (codes "update") then Some Update
     else None))
 
--- `expire QUESTION KEY MOMENT ANSWER`
-abbrev pub rule_of : List (List ℕ) → Option Rule
-rule_of (question ∷ key ∷ moment ∷ answer ∷ []) = do
+-- the rule that four words say
+abbrev pub rule_said : List ℕ → List ℕ → List ℕ → List ℕ → Option Rule
+rule_said question key moment answer = do
   q ← question_named question
   asked ← key_at key moment
   a ← number_or_none answer
   Some (record { question = q; key = asked.0; moment = asked.1.0; answer = a })
+
+-- `expire QUESTION KEY MOMENT ANSWER`
+abbrev pub rule_of : List (List ℕ) → Option Rule
+rule_of (question ∷ key ∷ moment ∷ answer ∷ []) = rule_said question key moment answer
 rule_of _ = None
 
 -- the rule of a line of that name

@@ -1,5 +1,5 @@
 -- What a replay prints.
-use Rattle.std.specs.Prelude.{◌≡◌, ℕ, ◌<◌, Bool, true, false, List, ◌∷◌, ◌++◌, Option, Some, None, Result, Ok, Err, codes, decimal, length, slice_index_or, if◌then◌else◌}
+use Rattle.std.specs.Prelude.{◌≡◌, ℕ, ◌<◌, Bool, true, false, List, [], ◌∷◌, ◌++◌, Option, Some, None, Result, Ok, Err, codes, decimal, length, slice_index_or, if◌then◌else◌}
 use Rattle.std.specs.List.{flat_map}
 use Rattle.std.specs.List.Sorted.{IsPermutation, IsNonDecreasing}
 use Rattle.std.specs.declared.vec.Vec.{Vec}
@@ -84,6 +84,24 @@ abbrev pub pending_text : ℕ → Option Ticket → ℕ → ℕ → List ℕ
 pending_text handed oldest writes reads = codes "handed "
     ++ (decimal handed ++ (codes " oldest "
     ++ (ticket_text oldest ++ (codes " writes " ++ (decimal writes ++ (codes " reads " ++ decimal reads))))))
+
+-- a reply that tells no number, no key and no value; nothing for any other
+abbrev pub plain_text : Reply ℕ (List ℕ) KeyRange → List ℕ
+plain_text (Insert (Err refused)) = insert_error_text refused.error
+plain_text (Disabled key value) = codes "disabled"
+plain_text (Send (Ok _)) = codes "sent"
+plain_text (Send (Err error)) = send_error_text error
+plain_text (Get (Ok None)) = codes "none"
+plain_text (Get (Err _)) = codes "refused memory"
+plain_text (Contains is_there) = if is_there then codes "yes" else codes "no"
+plain_text InvalidateAll = codes "ok"
+plain_text (InvalidateIf (Err refused)) = predicate_error_text refused.error
+plain_text (Run is_more_left) = if is_more_left then codes "more" else codes "done"
+plain_text RunIfDue = codes "ok"
+plain_text DisableAutoRun = codes "ok"
+plain_text (SetCapacity (Ok _)) = codes "ok"
+plain_text (SetCapacity (Err _)) = codes "refused zero"
+plain_text reply = []
 
 -- a reply, without its line feed
 abbrev pub reply_text : Reply ℕ (List ℕ) KeyRange → List ℕ

@@ -1,6 +1,6 @@
 //! The listener of a script.
 ghost use Rattle.std.specs.Prelude.{◌≡◌};
-ghost use Rattle.moka_script.specs.Notices.{room_of, cause_text};
+ghost use Rattle.moka_script.specs.Notices.{needs_room, room_of, cause_text};
 
 use crate::script::ScriptCall;
 use crate::word::Word;
@@ -61,15 +61,19 @@ impl Listener<u32, Word> for Notices {
     }
 }
 
-/// How many notices the calls may cause at most: each insert brings one value that may leave, and the listener may be
-/// notified of a removal.
+/// Whether a call may cause a notice: each insert brings one value that may leave, and the listener may be notified
+/// of a removal.
+fn needs_room(call: &&ScriptCall) -> bool
+    ensures { result ≡ needs_room call.now.now }
+{
+    matches!(call, Call::Insert { .. } | Call::Remove { .. })
+}
+
+/// How many notices the calls may cause at most.
 pub fn room_for(calls: &[ScriptCall]) -> usize
     ensures { result ≡ room_of calls.now }
 {
-    calls
-        .iter()
-        .filter(|call| matches!(call, Call::Insert { .. } | Call::Remove { .. }))
-        .count()
+    calls.iter().filter(needs_room).count()
 }
 
 /// A notice as it is printed, without its line feed.

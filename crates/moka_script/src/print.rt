@@ -1,6 +1,6 @@
 //! What a replay prints.
 ghost use Rattle.std.specs.Prelude.{◌≡◌};
-ghost use Rattle.moka_script.specs.Text.{insert_error_text, send_error_text, predicate_error_text, is_refused_memory, value_text, key_text, keys_text, removal_text, report_text, pending_text, ticket_text, IsInOrder, AreInOrder};
+ghost use Rattle.moka_script.specs.Text.{insert_error_text, send_error_text, predicate_error_text, plain_text, is_refused_memory, value_text, key_text, keys_text, key_list_text, removal_text, report_text, pending_text, reply_lines, IsInOrder, AreInOrder};
 ghost use Rattle.moka_script.specs.Notices.{notice_lines};
 ghost use Rattle.std.specs.Fmt.{WritesOnOk};
 
@@ -24,24 +24,12 @@ impl fmt::Display for ReplyText<'_> {
     fn fmt<W: fmt::Write>(&self, f: &mut fmt::Formatter<W>) -> fmt::Result {
         match self.0 {
             Reply::Insert(Ok((ticket, _))) => write!(f, "ticket {}", ticket.0),
-            Reply::Insert(Err(refused)) => f.write_str(insert_error_text(refused.error)),
-            Reply::Disabled { .. } => f.write_str("disabled"),
-            Reply::Send(Ok(())) => f.write_str("sent"),
-            Reply::Send(Err(error)) => f.write_str(send_error_text(*error)),
             Reply::Get(Ok(Some(entry))) => write!(f, "value {}", entry.value),
-            Reply::Get(Ok(None)) => f.write_str("none"),
-            Reply::Get(Err(_)) => f.write_str("refused memory"),
             Reply::GetUnrecorded(found) => write_value(f, found),
-            Reply::Contains(is_there) => f.write_str(if *is_there { "yes" } else { "no" }),
             Reply::Key(found) => write_key(f, found),
             Reply::Scan(found) => write_value(f, found),
             Reply::Remove { removed, told } => write_removal(f, removed, told),
-            Reply::InvalidateAll => f.write_str("ok"),
             Reply::InvalidateIf(Ok(id)) => write!(f, "predicate {id}"),
-            Reply::InvalidateIf(Err(refused)) => f.write_str(predicate_error_text(refused.error)),
-            Reply::Run(is_more_left) => f.write_str(if *is_more_left { "more" } else { "done" }),
-            Reply::RunIfDue => f.write_str("ok"),
-            Reply::DisableAutoRun => f.write_str("ok"),
             Reply::Keys(keys) => write_keys(f, keys),
             Reply::Report {
                 count,
@@ -54,9 +42,31 @@ impl fmt::Display for ReplyText<'_> {
                 writes,
                 reads,
             } => write_pending(f, *handed, *oldest, *writes, *reads),
-            Reply::SetCapacity(Ok(())) => f.write_str("ok"),
-            Reply::SetCapacity(Err(_)) => f.write_str("refused zero"),
+            plain => f.write_str(plain_text(plain)),
         }
+    }
+}
+
+/// The text of a reply that tells no number, no key and no value, and an empty one of any other.
+fn plain_text(reply: &ScriptReply) -> &'static str
+    ensures { result.now ≡ plain_text reply.now }
+{
+    match reply {
+        Reply::Insert(Err(refused)) => insert_error_text(refused.error),
+        Reply::Disabled { .. } => "disabled",
+        Reply::Send(Ok(())) => "sent",
+        Reply::Send(Err(error)) => send_error_text(*error),
+        Reply::Get(Ok(None)) => "none",
+        Reply::Get(Err(_)) => "refused memory",
+        Reply::Contains(true) => "yes",
+        Reply::Contains(false) => "no",
+        Reply::InvalidateIf(Err(refused)) => predicate_error_text(refused.error),
+        Reply::Run(true) => "more",
+        Reply::Run(false) => "done",
+        Reply::InvalidateAll | Reply::RunIfDue | Reply::DisableAutoRun => "ok",
+        Reply::SetCapacity(Ok(())) => "ok",
+        Reply::SetCapacity(Err(_)) => "refused zero",
+        _ => "",
     }
 }
 
@@ -93,10 +103,23 @@ fn write_keys<W: fmt::Write>(
     ensures { WritesOnOk W.write_str_gives f.old result (keys_text keys.now) f.new }
 {
     match keys {
-        Ok(Some(keys)) => write!(f, "keys{}", KeyList(keys)),
+        Ok(Some(keys)) => {
+            f.write_str("keys")?;
+            write_key_list(f, keys)
+        }
         Ok(None) => f.write_str("none"),
         Err(_) => f.write_str("refused memory"),
     }
+}
+
+/// Writes the keys in their order, one space before each.
+fn write_key_list<W: fmt::Write>(f: &mut fmt::Formatter<W>, keys: &[u32]) -> fmt::Result
+    ensures { WritesOnOk W.write_str_gives f.old result (key_list_text keys.now) f.new }
+{
+    for key in keys {
+        write!(f, " {key}")?;
+    }
+    Ok(())
 }
 
 fn write_removal<W: fmt::Write>(
@@ -140,17 +163,16 @@ fn write_pending<W: fmt::Write>(
 ) -> fmt::Result
     ensures { WritesOnOk W.write_str_gives f.old result (pending_text handed oldest writes reads) f.new }
 {
-    write!(f, "handed {handed} oldest ")?;
-    write_ticket(f, oldest)?;
-    write!(f, " writes {writes} reads {reads}")
-}
-
-fn write_ticket<W: fmt::Write>(f: &mut fmt::Formatter<W>, ticket: Option<Ticket>) -> fmt::Result
-    ensures { WritesOnOk W.write_str_gives f.old result (ticket_text ticket) f.new }
-{
-    match ticket {
-        Some(ticket) => write!(f, "{}", ticket.0),
-        None => f.write_str("none"),
+    match oldest {
+        Some(ticket) => write!(
+            f,
+            "handed {handed} oldest {} writes {writes} reads {reads}",
+            ticket.0
+        ),
+        None => write!(
+            f,
+            "handed {handed} oldest none writes {writes} reads {reads}"
+        ),
     }
 }
 
@@ -188,12 +210,20 @@ impl fmt::Display for ReplayText<'_> {
     ghost output = { λ text. Some (replay_text text.replies.now text.notices.now text.total) };
 
     fn fmt<W: fmt::Write>(&self, f: &mut fmt::Formatter<W>) -> fmt::Result {
-        for reply in self.replies {
-            writeln!(f, "{}", ReplyText(reply))?;
-        }
+        write_replies(f, self.replies)?;
         write_notices(f, self.notices)?;
         write!(f, "{}", self.total)
     }
+}
+
+/// Writes a line for each reply.
+fn write_replies<W: fmt::Write>(f: &mut fmt::Formatter<W>, replies: &[ScriptReply]) -> fmt::Result
+    ensures { WritesOnOk W.write_str_gives f.old result (reply_lines replies.now) f.new }
+{
+    for reply in replies {
+        writeln!(f, "{}", ReplyText(reply))?;
+    }
+    Ok(())
 }
 
 /// Writes a line for each notice.
@@ -204,24 +234,6 @@ fn write_notices<W: fmt::Write>(f: &mut fmt::Formatter<W>, notices: &[Notice]) -
         writeln!(f, "{}", NoticeText(notice))?;
     }
     Ok(())
-}
-
-/// The keys in their order, one space before each.
-#[derive(Clone, Copy)]
-struct KeyList<'a>(&'a [u32]);
-
-impl fmt::Display for KeyList<'_> {
-    ghost use Rattle.std.specs.Prelude.{Some};
-    ghost use Rattle.moka_script.specs.Text.{key_list_text};
-
-    ghost output = { λ list. Some (key_list_text list.0.now) };
-
-    fn fmt<W: fmt::Write>(&self, f: &mut fmt::Formatter<W>) -> fmt::Result {
-        for key in self.0 {
-            write!(f, " {key}")?;
-        }
-        Ok(())
-    }
 }
 
 /// Tells whether a reply was refused for memory.
@@ -248,17 +260,10 @@ pub fn is_refused_memory(reply: &ScriptReply) -> bool
 pub fn in_order(mut replies: Vec<ScriptReply>) -> Vec<ScriptReply>
     ensures { AreInOrder replies.items result.items }
 {
-    sort_keys(&mut replies);
-    replies
-}
-
-/// Puts the keys of each reply, if it has any, in rising order.
-fn sort_keys(replies: &mut [ScriptReply])
-    ensures { AreInOrder replies.old replies.new }
-{
     for reply in replies.iter_mut() {
         sort_keys_of(reply);
     }
+    replies
 }
 
 /// Puts the keys of a reply, if it has any, in rising order.

@@ -44,14 +44,17 @@ impl Listener<u32, Word> for Notices {
     }
 }
 
-/// How many notices the calls may cause at most: each insert brings one value that may leave, and the listener may be
-/// notified of a removal.
+/// Whether a call may cause a notice: each insert brings one value that may leave, and the listener may be notified
+/// of a removal.
+fn needs_room(call: &&ScriptCall) -> bool
+{
+    matches!(call, Call::Insert { .. } | Call::Remove { .. })
+}
+
+/// How many notices the calls may cause at most.
 pub fn room_for(calls: &[ScriptCall]) -> usize
 {
-    calls
-        .iter()
-        .filter(|call| matches!(call, Call::Insert { .. } | Call::Remove { .. }))
-        .count()
+    calls.iter().filter(needs_room).count()
 }
 
 /// A notice as it is printed, without its line feed.

@@ -18,24 +18,12 @@ impl fmt::Display for ReplyText<'_> {
     fn fmt(&self, f: &mut fmt::Formatter<'_>) -> fmt::Result {
         match self.0 {
             Reply::Insert(Ok((ticket, _))) => write!(f, "ticket {}", ticket.0),
-            Reply::Insert(Err(refused)) => f.write_str(insert_error_text(refused.error)),
-            Reply::Disabled { .. } => f.write_str("disabled"),
-            Reply::Send(Ok(())) => f.write_str("sent"),
-            Reply::Send(Err(error)) => f.write_str(send_error_text(*error)),
             Reply::Get(Ok(Some(entry))) => write!(f, "value {}", entry.value),
-            Reply::Get(Ok(None)) => f.write_str("none"),
-            Reply::Get(Err(_)) => f.write_str("refused memory"),
             Reply::GetUnrecorded(found) => write_value(f, found),
-            Reply::Contains(is_there) => f.write_str(if *is_there { "yes" } else { "no" }),
             Reply::Key(found) => write_key(f, found),
             Reply::Scan(found) => write_value(f, found),
             Reply::Remove { removed, told } => write_removal(f, removed, told),
-            Reply::InvalidateAll => f.write_str("ok"),
             Reply::InvalidateIf(Ok(id)) => write!(f, "predicate {id}"),
-            Reply::InvalidateIf(Err(refused)) => f.write_str(predicate_error_text(refused.error)),
-            Reply::Run(is_more_left) => f.write_str(if *is_more_left { "more" } else { "done" }),
-            Reply::RunIfDue => f.write_str("ok"),
-            Reply::DisableAutoRun => f.write_str("ok"),
             Reply::Keys(keys) => write_keys(f, keys),
             Reply::Report {
                 count,
@@ -48,9 +36,30 @@ impl fmt::Display for ReplyText<'_> {
                 writes,
                 reads,
             } => write_pending(f, *handed, *oldest, *writes, *reads),
-            Reply::SetCapacity(Ok(())) => f.write_str("ok"),
-            Reply::SetCapacity(Err(_)) => f.write_str("refused zero"),
+            plain => f.write_str(plain_text(plain)),
         }
+    }
+}
+
+/// The text of a reply that tells no number, no key and no value, and an empty one of any other.
+fn plain_text(reply: &ScriptReply) -> &'static str
+{
+    match reply {
+        Reply::Insert(Err(refused)) => insert_error_text(refused.error),
+        Reply::Disabled { .. } => "disabled",
+        Reply::Send(Ok(())) => "sent",
+        Reply::Send(Err(error)) => send_error_text(*error),
+        Reply::Get(Ok(None)) => "none",
+        Reply::Get(Err(_)) => "refused memory",
+        Reply::Contains(true) => "yes",
+        Reply::Contains(false) => "no",
+        Reply::InvalidateIf(Err(refused)) => predicate_error_text(refused.error),
+        Reply::Run(true) => "more",
+        Reply::Run(false) => "done",
+        Reply::InvalidateAll | Reply::RunIfDue | Reply::DisableAutoRun => "ok",
+        Reply::SetCapacity(Ok(())) => "ok",
+        Reply::SetCapacity(Err(_)) => "refused zero",
+        _ => "",
     }
 }
 
@@ -84,10 +93,22 @@ fn write_keys(
 ) -> fmt::Result
 {
     match keys {
-        Ok(Some(keys)) => write!(f, "keys{}", KeyList(keys)),
+        Ok(Some(keys)) => {
+            f.write_str("keys")?;
+            write_key_list(f, keys)
+        }
         Ok(None) => f.write_str("none"),
         Err(_) => f.write_str("refused memory"),
     }
+}
+
+/// Writes the keys in their order, one space before each.
+fn write_key_list(f: &mut fmt::Formatter<'_>, keys: &[u32]) -> fmt::Result
+{
+    for key in keys {
+        write!(f, " {key}")?;
+    }
+    Ok(())
 }
 
 fn write_removal(
@@ -128,16 +149,16 @@ fn write_pending(
     reads: usize,
 ) -> fmt::Result
 {
-    write!(f, "handed {handed} oldest ")?;
-    write_ticket(f, oldest)?;
-    write!(f, " writes {writes} reads {reads}")
-}
-
-fn write_ticket(f: &mut fmt::Formatter<'_>, ticket: Option<Ticket>) -> fmt::Result
-{
-    match ticket {
-        Some(ticket) => write!(f, "{}", ticket.0),
-        None => f.write_str("none"),
+    match oldest {
+        Some(ticket) => write!(
+            f,
+            "handed {handed} oldest {} writes {writes} reads {reads}",
+            ticket.0
+        ),
+        None => write!(
+            f,
+            "handed {handed} oldest none writes {writes} reads {reads}"
+        ),
     }
 }
 
@@ -167,12 +188,19 @@ pub struct ReplayText<'a> {
 impl fmt::Display for ReplayText<'_> {
 
     fn fmt(&self, f: &mut fmt::Formatter<'_>) -> fmt::Result {
-        for reply in self.replies {
-            writeln!(f, "{}", ReplyText(reply))?;
-        }
+        write_replies(f, self.replies)?;
         write_notices(f, self.notices)?;
         write!(f, "{}", self.total)
     }
+}
+
+/// Writes a line for each reply.
+fn write_replies(f: &mut fmt::Formatter<'_>, replies: &[ScriptReply]) -> fmt::Result
+{
+    for reply in replies {
+        writeln!(f, "{}", ReplyText(reply))?;
+    }
+    Ok(())
 }
 
 /// Writes a line for each notice.
@@ -182,20 +210,6 @@ fn write_notices(f: &mut fmt::Formatter<'_>, notices: &[Notice]) -> fmt::Result
         writeln!(f, "{}", NoticeText(notice))?;
     }
     Ok(())
-}
-
-/// The keys in their order, one space before each.
-#[derive(Clone, Copy)]
-struct KeyList<'a>(&'a [u32]);
-
-impl fmt::Display for KeyList<'_> {
-
-    fn fmt(&self, f: &mut fmt::Formatter<'_>) -> fmt::Result {
-        for key in self.0 {
-            write!(f, " {key}")?;
-        }
-        Ok(())
-    }
 }
 
 /// Tells whether a reply was refused for memory.
@@ -220,16 +234,10 @@ pub fn is_refused_memory(reply: &ScriptReply) -> bool
 /// The replies, with the keys of each, if it has any, in rising order.
 pub fn in_order(mut replies: Vec<ScriptReply>) -> Vec<ScriptReply>
 {
-    sort_keys(&mut replies);
-    replies
-}
-
-/// Puts the keys of each reply, if it has any, in rising order.
-fn sort_keys(replies: &mut [ScriptReply])
-{
     for reply in replies.iter_mut() {
         sort_keys_of(reply);
     }
+    replies
 }
 
 /// Puts the keys of a reply, if it has any, in rising order.

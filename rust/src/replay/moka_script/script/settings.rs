@@ -69,37 +69,40 @@ impl Settings {
     /// The settings with one more, unless it is there already.
     pub fn with(mut self, setting: Setting) -> Option<Settings>
     {
-        match setting {
-            Setting::First(first) => self.first = filled(self.first, first)?,
-            Setting::Capacity(capacity) => self.capacity = filled(self.capacity, capacity)?,
-            Setting::Policy(policy) => self.policy = filled(self.policy, policy)?,
-            Setting::TimeToLive(nanos) => self.time_to_live = filled(self.time_to_live, nanos)?,
-            Setting::TimeToIdle(nanos) => self.time_to_idle = filled(self.time_to_idle, nanos)?,
-            Setting::Weigh(weigher) => self.weigher = filled(self.weigher, weigher)?,
-            Setting::Listener => self.listener = raised(self.listener)?,
-            Setting::Invalidator => self.invalidator = raised(self.invalidator)?,
-            Setting::RepeatedIds => self.repeats_ids = raised(self.repeats_ids)?,
-            Setting::Start(now) => self.start = filled(self.start, now)?,
-            Setting::Keeper(keeper) => self.keeper = filled(self.keeper, keeper)?,
-            Setting::Auto => self.automatic = raised(self.automatic)?,
-        }
-        Some(self)
+        let is_new = match setting {
+            Setting::First(first) => fill(&mut self.first, first),
+            Setting::Capacity(capacity) => fill(&mut self.capacity, capacity),
+            Setting::Policy(policy) => fill(&mut self.policy, policy),
+            Setting::TimeToLive(nanos) => fill(&mut self.time_to_live, nanos),
+            Setting::TimeToIdle(nanos) => fill(&mut self.time_to_idle, nanos),
+            Setting::Weigh(weigher) => fill(&mut self.weigher, weigher),
+            Setting::Listener => raise(&mut self.listener),
+            Setting::Invalidator => raise(&mut self.invalidator),
+            Setting::RepeatedIds => raise(&mut self.repeats_ids),
+            Setting::Start(now) => fill(&mut self.start, now),
+            Setting::Keeper(keeper) => fill(&mut self.keeper, keeper),
+            Setting::Auto => raise(&mut self.automatic),
+        };
+        if is_new { Some(self) } else { None }
     }
 }
 
-/// A place with a value, unless it has one already.
-fn filled<T: Copy>(place: Option<T>, value: T) -> Option<Option<T>>
+/// Fills a place, unless it has a value already. Whether it had none.
+fn fill<T: Copy>(place: &mut Option<T>, value: T) -> bool
 {
-    match place {
-        None => Some(Some(value)),
-        Some(_) => None,
+    if place.is_some() {
+        return false;
     }
+    *place = Some(value);
+    true
 }
 
-/// A flag that is raised, unless it is already.
-fn raised(flag: bool) -> Option<bool>
+/// Raises a flag, unless it is raised already. Whether it was not.
+fn raise(flag: &mut bool) -> bool
 {
-    if flag { None } else { Some(true) }
+    let is_new = !*flag;
+    *flag = true;
+    is_new
 }
 
 /// A line that sets something.
@@ -122,9 +125,15 @@ pub enum Setting {
 /// `keeper LIMIT REPEATS BATCH`
 fn keeper(arguments: &[&str]) -> Option<Setting>
 {
-    let [limit, repeats, batch] = arguments else {
-        return None;
-    };
+    match arguments {
+        [limit, repeats, batch] => keeper_terms(limit, repeats, batch),
+        _ => None,
+    }
+}
+
+/// The housekeeper's terms that three words say.
+fn keeper_terms(limit: &str, repeats: &str, batch: &str) -> Option<Setting>
+{
     let limit = number(limit)?;
     let repeats = small_number(repeats)?;
     let batch = small_number(batch)?;
@@ -203,9 +212,15 @@ fn numbered_setting(name: &str, number: u64) -> Option<Setting>
 /// `expire QUESTION KEY MOMENT ANSWER`
 fn rule(arguments: &[&str]) -> Option<Rule>
 {
-    let [question, key, moment, answer] = arguments else {
-        return None;
-    };
+    match arguments {
+        [question, key, moment, answer] => rule_said(question, key, moment, answer),
+        _ => None,
+    }
+}
+
+/// The rule that four words say.
+fn rule_said(question: &str, key: &str, moment: &str, answer: &str) -> Option<Rule>
+{
     let question = question_named(question)?;
     let (key, moment) = key_at(key, moment)?;
     let answer = number_or_none(answer)?;
