@@ -69,6 +69,7 @@ mod look_ups;
 mod making;
 mod mark;
 mod notices;
+mod once;
 pub mod policy;
 #[cfg(test)]
 mod random_calls;

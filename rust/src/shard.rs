@@ -23,6 +23,7 @@ use crate::engine::moka_parts::key_test::KeyTest;
 use crate::key::{Carried, Key, Test, address, note_comparison};
 use crate::mark::Mark;
 use crate::notices::{Left, Teller};
+use crate::once::Once;
 use crate::policy::Asked;
 use crate::settings::{Settings, Testing, Tests, Weighing};
 use crate::support::alloc::Global;
@@ -30,6 +31,7 @@ use crate::support::uuid::Uuid;
 use crate::{Entry, RemovalCause, Stats};
 use moka_cache::{CountingListener, NotTold};
 use std::alloc::{Layout, handle_alloc_error};
+use std::borrow::Borrow;
 use std::cell::OnceCell;
 use std::hash::Hash;
 use std::mem;
@@ -83,6 +85,14 @@ impl IdSource for Chosen {
     fn next_id(&mut self) -> PredicateId {
         Uuid::from_u128(self.0)
     }
+}
+
+// Whether a kept key is the one that is sought. The shard's calls take the key and make their tests of it themselves: a
+// test that is written in a caller which is generic over a maker would be another type, and the engine's look-up
+// another function, for each maker.
+#[inline]
+fn is_same<K: Borrow<Q>, Q: Eq + ?Sized>(kept: &Arc<K>, key: &Q) -> bool {
+    (**kept).borrow() == key
 }
 
 /// A test of the caller's in a call that may change something, before or after it is asked.
@@ -311,9 +321,13 @@ impl<K: Eq + Hash + 'static, V> Shard<K, V> {
         self.now.max(self.clock.read())
     }
 
-    // The key that is kept, by a test of the caller's. Nothing changes, so a panic of the test harms nothing.
+    // The key that is kept and equals this. Nothing changes, so a panic of the caller's `Eq` harms nothing.
     #[inline]
-    fn kept(&self, hash: u64, test: Test<'_, K>) -> Option<Arc<K>> {
+    fn kept(&self, hash: u64, key: &K) -> Option<Arc<K>>
+    where
+        K: Sync,
+    {
+        let test: Test<'_, K> = &|kept| kept == key;
         let sought = Key::sought(hash, &test);
         let found = self.cache.engine().get_key_with_hash(&sought, hash)?;
         found.shared().map(Arc::clone)
@@ -336,23 +350,27 @@ impl<K: Eq + Hash + 'static, V> Shard<K, V> {
 
     /// A clone of a key's value, which counts as a read.
     #[inline]
-    pub fn get(&mut self, hash: u64, test: impl Fn(&K) -> bool) -> Option<V>
+    pub fn get<Q>(&mut self, hash: u64, key: &Q) -> Option<V>
     where
+        K: Borrow<Q>,
+        Q: Eq + ?Sized,
         V: Clone,
     {
-        self.get_by(hash, |kept: &Arc<K>| test(kept))
+        self.get_by(hash, |kept| is_same(kept, key))
     }
 
     /// The same beside the key that is kept, if one is, whether its value is visible or not.
     #[inline]
-    pub fn seek(&mut self, hash: u64, test: impl Fn(&K) -> bool) -> (Option<Arc<K>>, Option<V>)
+    pub fn seek<Q>(&mut self, hash: u64, key: &Q) -> (Option<Arc<K>>, Option<V>)
     where
+        K: Borrow<Q>,
+        Q: Eq + ?Sized,
         V: Clone,
     {
         // The look-up hands out no key, so that which passes is noted. The value is that of the first.
         let passed = OnceCell::new();
-        let value = self.get_by(hash, |kept: &Arc<K>| {
-            let is_key = test(kept);
+        let value = self.get_by(hash, |kept| {
+            let is_key = is_same(kept, key);
             if is_key {
                 passed.get_or_init(|| Arc::clone(kept));
             }
@@ -363,20 +381,23 @@ impl<K: Eq + Hash + 'static, V> Shard<K, V> {
 
     /// A clone of a key's value with the key that is kept, which counts as a read.
     #[inline]
-    pub fn get_entry(&mut self, hash: u64, test: impl Fn(&K) -> bool) -> Option<(Arc<K>, V)>
+    pub fn get_entry<Q>(&mut self, hash: u64, key: &Q) -> Option<(Arc<K>, V)>
     where
+        K: Borrow<Q>,
+        Q: Eq + ?Sized,
         V: Clone,
     {
-        let (kept, value) = self.seek(hash, test);
+        let (kept, value) = self.seek(hash, key);
         Some((kept?, value?))
     }
 
     /// A clone of a key's value, for a call whose look-up was counted before: a read, but no second look-up.
-    pub fn get_again(&mut self, hash: u64, test: impl Fn(&K) -> bool) -> Option<V>
+    pub fn get_again(&mut self, hash: u64, key: &K) -> Option<V>
     where
         V: Clone,
     {
-        let value = self.get(hash, test);
+        // A test of its own, so that the engine's look-up may stand in `get` itself: this is seldom called.
+        let value = self.get_by(hash, |kept| is_same(kept, key));
         match value {
             Some(_) => self.rereads += 1,
             None => self.unasked += 1,
@@ -385,17 +406,22 @@ impl<K: Eq + Hash + 'static, V> Shard<K, V> {
     }
 
     /// A clone of a key's value with the key that is kept; nothing is recorded.
-    pub fn peek(&self, hash: u64, test: Test<'_, K>) -> Option<(Arc<K>, V)>
+    pub fn peek(&self, hash: u64, key: &K) -> Option<(Arc<K>, V)>
     where
+        K: Sync,
         V: Clone,
     {
-        let key = self.kept(hash, test)?;
+        let key = self.kept(hash, key)?;
         let value = self.scan(hash, &key)?;
         Some((key, value))
     }
 
-    pub fn contains(&self, hash: u64, test: impl Fn(&K) -> bool) -> bool {
-        let test = |kept: &Arc<K>| test(kept);
+    pub fn contains<Q>(&self, hash: u64, key: &Q) -> bool
+    where
+        K: Borrow<Q>,
+        Q: Eq + ?Sized,
+    {
+        let test = |kept: &Arc<K>| is_same(kept, key);
         self.cache.contains_key_by(&Passing(test), hash, self.glance())
     }
 
@@ -415,8 +441,7 @@ impl<K: Eq + Hash + 'static, V> Shard<K, V> {
     where
         K: Sync,
     {
-        let sought: &K = &key;
-        let Some(kept) = self.kept(hash, &|kept| kept == sought) else {
+        let Some(kept) = self.kept(hash, &key) else {
             self.insert_kept(hash, key, value);
             return None;
         };
@@ -448,35 +473,37 @@ impl<K: Eq + Hash + 'static, V> Shard<K, V> {
         self.change(|cache, clock| cache.run_pending_tasks(now, clock));
     }
 
-    /// The entry of a key, the one that is kept if one is, with a value that is made and put there. A maker that panics
-    /// has changed nothing.
-    pub fn put_made<E>(
+    /// The entry of a key, the one that is kept if one is, with a value that is made and put there; none if the maker
+    /// gives none. A maker that panics has changed nothing.
+    pub fn put_made(
         &mut self,
         hash: u64,
         key: Arc<K>,
         is_replaced: bool,
-        init: impl FnOnce() -> Result<V, E>,
-    ) -> Result<Entry<K, V>, E>
+        init: Once<'_, (), Option<V>>,
+    ) -> Option<Entry<K, V>>
     where
         V: Clone,
     {
         // The load has failed until the value is there.
         self.counted.load_failures += 1;
-        let value = init()?;
+        let value = init.call(())?;
         self.insert_kept(hash, Arc::clone(&key), value.clone());
         self.counted.load_failures -= 1;
         self.counted.loads += 1;
-        Ok(Entry::put(key, value, is_replaced))
+        Some(Entry::put(key, value, is_replaced))
     }
 
     /// Takes a key's entry out, and hands out its value, also one that has expired. The listener is notified.
-    pub fn remove(&mut self, hash: u64, test: impl Fn(&K) -> bool) -> Option<V>
+    pub fn remove<Q>(&mut self, hash: u64, key: &Q) -> Option<V>
     where
+        K: Borrow<Q>,
+        Q: Eq + ?Sized,
         V: Clone,
     {
         let now = self.read_clock();
         let mark = &self.mark;
-        let test = |kept: &Arc<K>| test(kept);
+        let test = |kept: &Arc<K>| is_same(kept, key);
         mark.set();
         let removed = self.cache.remove_by(&ByTest { test, mark }, hash, now, &mut self.clock);
         mark.clear();

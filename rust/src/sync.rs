@@ -262,6 +262,16 @@ where
         }
     }
 
+    // The look-up of all calls that ask for a value alone: the engine's stands in it, once for a type of keys.
+    #[inline]
+    fn get_hashed<Q>(&self, hash: u64, key: &Q) -> Option<V>
+    where
+        K: Borrow<Q>,
+        Q: Eq + ?Sized,
+    {
+        self.with(self.place(hash), |shard| shard.get(hash, key))
+    }
+
     fn insert_shared(&self, hash: u64, key: Arc<K>, value: V) {
         self.with(self.place(hash), |shard| shard.insert(hash, key, value));
     }
@@ -283,7 +293,7 @@ where
         Q: Eq + Hash + ?Sized,
     {
         let hash = self.0.router.hasher().hash_one(key);
-        self.with(self.place(hash), |shard| shard.get(hash, |kept| kept.borrow() == key))
+        self.get_hashed(hash, key)
     }
 
     /// Whether there is a value under a key. This does not count as a read.
@@ -300,9 +310,7 @@ where
         Q: Eq + Hash + ?Sized,
     {
         let hash = self.0.router.hasher().hash_one(key);
-        self.with(self.place(hash), |shard| {
-            shard.contains(hash, |kept| kept.borrow() == key)
-        })
+        self.with(self.place(hash), |shard| shard.contains(hash, key))
     }
 
     /// Puts a value under a key. An old value leaves as `Replaced`.
@@ -333,9 +341,7 @@ where
         Q: Eq + Hash + ?Sized,
     {
         let hash = self.0.router.hasher().hash_one(key);
-        self.with(self.place(hash), |shard| {
-            shard.remove(hash, |kept| kept.borrow() == key)
-        })
+        self.with(self.place(hash), |shard| shard.remove(hash, key))
     }
 
     /// Removes a key's entry. The listener is notified. As in `remove`, the value is cloned under the shard's lock. A
@@ -398,7 +404,10 @@ where
     where
         F: Fn(&K, &V) -> bool + Send + Sync + 'static,
     {
-        let predicate: Tests<K, V> = Arc::new(predicate);
+        self.hide(Arc::new(predicate))
+    }
+
+    fn hide(&self, predicate: Tests<K, V>) -> Result<PredicateId, PredicateError> {
         let id = self.0.last_predicate.fetch_add(1, Ordering::Relaxed) + 1;
         let mut answer = Ok(id.to_string());
         self.with_each(|shard| {

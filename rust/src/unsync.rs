@@ -15,7 +15,7 @@ pub use entry::{EntrySelector, RefKeyEntrySelector};
 pub use iter::Iter;
 
 use crate::notices::{Notices, locked, make_waits};
-use crate::settings::{Settings, setters};
+use crate::settings::{Settings, Tests, setters};
 use crate::shard::{Shard, Visits};
 use crate::{Entry, EvictionPolicy, Expiry, Policy, PredicateError, RemovalCause, Stats};
 use std::borrow::Borrow;
@@ -304,7 +304,7 @@ impl<K: Eq + Hash + Sync + 'static, V: Clone + 'static, S: BuildHasher> Cache<K,
         Q: Eq + Hash + ?Sized,
     {
         let hash = self.hasher.hash_one(key);
-        self.with(|shard| shard.get(hash, |kept| kept.borrow() == key))
+        self.with(|shard| shard.get(hash, key))
     }
 
     /// Whether there is a value under a key. This does not count as a read.
@@ -321,7 +321,7 @@ impl<K: Eq + Hash + Sync + 'static, V: Clone + 'static, S: BuildHasher> Cache<K,
         Q: Eq + Hash + ?Sized,
     {
         let hash = self.hasher.hash_one(key);
-        !self.shard.is_broken() && self.shard.contains(hash, |kept| kept.borrow() == key)
+        !self.shard.is_broken() && self.shard.contains(hash, key)
     }
 
     /// Puts a value under a key. An old value leaves as `Replaced`.
@@ -476,7 +476,7 @@ impl<K: Eq + Hash + Sync + 'static, V: Clone + 'static, S: BuildHasher> Cache<K,
         Q: Eq + Hash + ?Sized,
     {
         let hash = self.hasher.hash_one(key);
-        self.with(|shard| shard.remove(hash, |kept| kept.borrow() == key))
+        self.with(|shard| shard.remove(hash, key))
     }
 
     /// Removes a key's entry. The listener is notified.
@@ -529,9 +529,13 @@ impl<K: Eq + Hash + Sync + 'static, V: Clone + 'static, S: BuildHasher> Cache<K,
     where
         F: Fn(&K, &V) -> bool + Send + Sync + 'static,
     {
+        self.hide(Arc::new(predicate))
+    }
+
+    fn hide(&mut self, predicate: Tests<K, V>) -> Result<PredicateId, PredicateError> {
         self.last_predicate += 1;
         let id = self.last_predicate;
-        self.with(|shard| shard.invalidate_entries_if(Arc::new(predicate), id.into()))?;
+        self.with(|shard| shard.invalidate_entries_if(predicate, id.into()))?;
         Ok(id.to_string())
     }
 

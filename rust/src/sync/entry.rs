@@ -1,9 +1,10 @@
 //! Calls for one key that look first and then decide.
 
 use super::Cache;
-use super::loads::{Always, Optionally, always, made, made_or_failed, made_or_nothing, shared_error};
+use super::loads::{Always, Optionally, always, made, made_or_failed, made_or_nothing, never, shared_error};
 use crate::entry::{CompResult, Entry, Op, computed};
 use crate::making::Outcome;
+use crate::once::{Once, trying};
 use std::any::TypeId;
 use std::borrow::Borrow;
 use std::convert::Infallible;
@@ -82,54 +83,50 @@ where
     fn entry_loaded(
         &self,
         hash: u64,
-        key: Arc<K>,
+        key: &Arc<K>,
         kind: TypeId,
         is_seen: bool,
-        mut replaces: impl FnMut(&V) -> bool,
-        make: impl FnOnce() -> Outcome<V>,
-    ) -> (Arc<K>, bool, Outcome<V>) {
+        replaces: &mut dyn FnMut(&V) -> bool,
+        make: Once<'_, (), Outcome<V>>,
+    ) -> (bool, Outcome<V>) {
         let mut is_replaced = is_seen;
-        let outcome = self.load(
-            hash,
-            Arc::clone(&key),
-            kind,
-            |value| {
-                is_replaced = replaces(value);
-                is_replaced
-            },
-            make,
-        );
-        (key, is_replaced, outcome)
+        let mut replaces = |value: &V| {
+            is_replaced = replaces(value);
+            is_replaced
+        };
+        let outcome = self.load(hash, Arc::clone(key), kind, &mut replaces, make);
+        (is_replaced, outcome)
     }
 
-    // Decides about the entry of a key, while no other does so for this key.
-    fn compute<E>(
+    // Decides about the entry of a key, while no other does so for this key. There is no answer if the closure gives
+    // none: then nothing is done.
+    fn compute(
         &self,
         hash: u64,
         key: Arc<K>,
-        decide: impl FnOnce(Option<Entry<K, V>>) -> Result<Op<V>, E>,
-    ) -> Result<CompResult<K, V>, E> {
+        decide: Once<'_, Option<Entry<K, V>>, Option<Op<V>>>,
+    ) -> Option<CompResult<K, V>> {
         let place = self.place(hash);
         // They end after the making, as those of a load.
         let mut calls = self.0.places.calls(place);
         place.makers.alone(hash, Arc::clone(&key), || {
-            let there = calls.make(|shard| shard.get_entry(hash, |kept| *kept == *key));
+            let there = calls.make(|shard| shard.get_entry(hash, &*key));
             // The closure may wait for what that frees. A listener may ask for the key, so it waits for the end.
             calls.drop_left();
             let there = there.map(|(key, value)| Entry::found(key, value));
-            let op = decide(there.clone())?;
-            Ok(computed(Arc::clone(&key), op, there, |value| match value {
+            let op = decide.call(there.clone())?;
+            Some(computed(Arc::clone(&key), op, there, |value| match value {
                 Some(value) => {
                     drop(calls.make(|shard| shard.insert(hash, key, value)));
                     None
                 }
-                None => calls.make(|shard| shard.remove(hash, |kept| *kept == *key)),
+                None => calls.make(|shard| shard.remove(hash, &*key)),
             }))
         })
     }
 }
 
-fn entry_of<K, V>((key, is_replaced, outcome): (Arc<K>, bool, Outcome<V>)) -> Option<Entry<K, V>> {
+fn entry_of<K, V>(key: Arc<K>, (is_replaced, outcome): (bool, Outcome<V>)) -> Option<Entry<K, V>> {
     match outcome {
         Outcome::Made { value, is_fresh } => Some(Entry {
             key,
@@ -201,11 +198,12 @@ macro_rules! calls {
             match found {
                 Some((key, value)) if !replace_if(&value) => Entry::found(key, value),
                 _ => {
-                    let kind = TypeId::of::<Always>();
-                    let loaded = cache.entry_loaded(hash, self.into_shared(), kind, is_seen, replace_if, || {
-                        made(init())
-                    });
-                    always(entry_of(loaded))
+                    let (key, kind) = (self.into_shared(), TypeId::of::<Always>());
+                    // It goes, with what it has captured, before what was found does.
+                    let mut replaces = replace_if;
+                    let make = &mut Some(|()| made(init()));
+                    let loaded = cache.entry_loaded(hash, &key, kind, is_seen, &mut replaces, Once::of(make));
+                    always(entry_of(key, loaded))
                 }
             }
         }
@@ -224,8 +222,9 @@ macro_rules! calls {
                 return Some(Entry::found(key, value));
             }
             let (cache, hash, kind) = (self.cache, self.hash, TypeId::of::<Optionally>());
-            let make = || made_or_nothing(init());
-            entry_of(cache.entry_loaded(hash, self.into_shared(), kind, false, |_| false, make))
+            let (key, make) = (self.into_shared(), &mut Some(|()| made_or_nothing(init())));
+            let loaded = cache.entry_loaded(hash, &key, kind, false, &mut never, Once::of(make));
+            entry_of(key, loaded)
         }
 
         /// The key's entry; if there is none, a value is made and put there.
@@ -248,11 +247,10 @@ macro_rules! calls {
                 return Ok(Entry::found(key, value));
             }
             let (cache, hash, kind) = (self.cache, self.hash, TypeId::of::<E>());
-            let make = || made_or_failed(init());
-            let (key, is_replaced, outcome) =
-                cache.entry_loaded(hash, self.into_shared(), kind, false, |_| false, make);
+            let (key, make) = (self.into_shared(), &mut Some(|()| made_or_failed(init())));
+            let (is_replaced, outcome) = cache.entry_loaded(hash, &key, kind, false, &mut never, Once::of(make));
             let outcome = shared_error(outcome)?;
-            Ok(always(entry_of((key, is_replaced, outcome))))
+            Ok(always(entry_of(key, (is_replaced, outcome))))
         }
 
         /// Puts the value that the closure makes of the entry, or of `None` if there is none. No other call of this
@@ -320,8 +318,8 @@ macro_rules! calls {
         where
             F: FnOnce(Option<Entry<K, V>>) -> Result<Op<V>, E>,
         {
-            let (cache, hash) = (self.cache, self.hash);
-            cache.compute(hash, self.into_shared(), f)
+            let (cache, hash, key) = (self.cache, self.hash, self.into_shared());
+            trying(f, |decide| cache.compute(hash, key, decide))
         }
     };
 }
@@ -334,9 +332,7 @@ where
 {
     fn look(&self) -> Option<(Arc<K>, V)> {
         let place = self.cache.place(self.hash);
-        let key = &self.key;
-        self.cache
-            .with(place, |shard| shard.get_entry(self.hash, |kept| kept == key))
+        self.cache.with(place, |shard| shard.get_entry(self.hash, &self.key))
     }
 
     fn into_shared(self) -> Arc<K> {
@@ -355,9 +351,7 @@ where
 {
     fn look(&self) -> Option<(Arc<K>, V)> {
         let place = self.cache.place(self.hash);
-        let key = self.key;
-        self.cache
-            .with(place, |shard| shard.get_entry(self.hash, |kept| kept.borrow() == key))
+        self.cache.with(place, |shard| shard.get_entry(self.hash, self.key))
     }
 
     fn into_shared(self) -> Arc<K> {

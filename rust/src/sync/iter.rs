@@ -66,7 +66,7 @@ where
                     return Some((key, value));
                 }
                 // Since the keys were listed another one that equals this may have been put there.
-                if let Some(entry) = shard.peek(hash, &|kept| *kept == *key) {
+                if let Some(entry) = shard.peek(hash, &key) {
                     return Some(entry);
                 }
             }

@@ -2,6 +2,7 @@
 
 use super::Cache;
 use crate::making::{Outcome, Wanted};
+use crate::once::Once;
 use std::any::TypeId;
 use std::borrow::Borrow;
 use std::hash::{BuildHasher, Hash};
@@ -47,6 +48,11 @@ pub(super) fn shared_error<V, E: Send + Sync + 'static>(outcome: Outcome<V>) -> 
     }
 }
 
+/// The test that has no value replaced.
+pub(super) fn never<V>(_: &V) -> bool {
+    false
+}
+
 pub(super) fn made<V>(value: V) -> Outcome<V> {
     Outcome::Made { value, is_fresh: true }
 }
@@ -71,8 +77,8 @@ where
         hash: u64,
         key: Arc<K>,
         kind: TypeId,
-        replaces: impl FnOnce(&V) -> bool,
-        make: impl FnOnce() -> Outcome<V>,
+        replaces: &mut dyn FnMut(&V) -> bool,
+        make: Once<'_, (), Outcome<V>>,
     ) -> Outcome<V> {
         let place = self.place(hash);
         // Their end comes after that of the making: the listener may ask for the key.
@@ -81,19 +87,19 @@ where
         let key = &wanted.key;
         place.makers.once(&wanted, |making| {
             // Another may have put it there since the caller looked.
-            let there = calls.make(|shard| shard.peek(hash, &|kept| *kept == **key));
+            let there = calls.make(|shard| shard.peek(hash, key));
             if let Some((_, value)) = there
                 && !replaces(&value)
             {
                 // That counts as a read. What is there by now was not tested, so this is the value that is handed out.
-                drop(calls.make(|shard| shard.get_again(hash, |kept| *kept == **key)));
+                drop(calls.make(|shard| shard.get_again(hash, key)));
                 return Outcome::Made { value, is_fresh: false };
             }
             let mut load = Load {
                 failures: &self.0.load_failures,
                 is_done: false,
             };
-            let outcome = make();
+            let outcome = make.call(());
             if let Outcome::Made { value, .. } = &outcome {
                 let value = value.clone();
                 calls.make(|shard| {
@@ -109,13 +115,16 @@ where
         })
     }
 
-    // The value of a key that is there, or the outcome of its maker.
+    // The value of a key that is there, or the outcome of its maker. This is compiled for each maker, so it only looks
+    // and hands on.
     fn get_or_load(&self, key: K, kind: TypeId, make: impl FnOnce() -> Outcome<V>) -> Outcome<V> {
         let hash = self.0.router.hasher().hash_one(&key);
-        let found = self.with(self.place(hash), |shard| shard.get(hash, |kept| *kept == key));
-        match found {
+        match self.get_hashed(hash, &key) {
             Some(value) => Outcome::Made { value, is_fresh: false },
-            None => self.load(hash, Arc::new(key), kind, |_| false, make),
+            None => {
+                let make = &mut Some(|()| make());
+                self.load(hash, Arc::new(key), kind, &mut never, Once::of(make))
+            }
         }
     }
 
@@ -126,10 +135,12 @@ where
         Q: Eq + Hash + ToOwned<Owned = K> + ?Sized,
     {
         let hash = self.0.router.hasher().hash_one(key);
-        let found = self.with(self.place(hash), |shard| shard.get(hash, |kept| kept.borrow() == key));
-        match found {
+        match self.get_hashed(hash, key) {
             Some(value) => Outcome::Made { value, is_fresh: false },
-            None => self.load(hash, Arc::new(key.to_owned()), kind, |_| false, make),
+            None => {
+                let make = &mut Some(|()| make());
+                self.load(hash, Arc::new(key.to_owned()), kind, &mut never, Once::of(make))
+            }
         }
     }
 

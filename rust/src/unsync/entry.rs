@@ -3,7 +3,7 @@
 use super::Cache;
 use crate::Entry;
 use crate::entry::{CompResult, Op, computed};
-use crate::shard::Shard;
+use crate::once::{Once, trying};
 use std::borrow::Borrow;
 use std::convert::Infallible;
 use std::fmt;
@@ -37,6 +37,33 @@ impl<K, Q: fmt::Debug + ?Sized, V, S> fmt::Debug for RefKeyEntrySelector<'_, K, 
     fn fmt(&self, f: &mut fmt::Formatter<'_>) -> fmt::Result {
         let mut shown = f.debug_struct("RefKeyEntrySelector");
         shown.field("key", &self.key).finish_non_exhaustive()
+    }
+}
+
+impl<K: Eq + Hash + Sync + 'static, V: Clone + 'static, S: BuildHasher> Cache<K, V, S> {
+    // The entry of a key that is kept, or of one that is not there, with a value that is made; none if that is not.
+    fn put_made(
+        &mut self,
+        hash: u64,
+        key: Arc<K>,
+        is_replaced: bool,
+        make: Once<'_, (), Option<V>>,
+    ) -> Option<Entry<K, V>> {
+        self.with(|shard| shard.put_made(hash, key, is_replaced, make))
+    }
+
+    // Does with an entry what the caller's closure has decided.
+    fn change(&mut self, hash: u64, key: Arc<K>, op: Op<V>, there: Option<Entry<K, V>>) -> CompResult<K, V> {
+        let kept = Arc::clone(&key);
+        computed(key, op, there, |value| {
+            self.with(|shard| match value {
+                Some(value) => {
+                    shard.insert_kept(hash, kept, value);
+                    None
+                }
+                None => shard.remove_kept(hash, &kept),
+            })
+        })
     }
 }
 
@@ -97,13 +124,13 @@ macro_rules! calls {
             mut replace_if: impl FnMut(&V) -> bool,
         ) -> Entry<K, V> {
             let Self { cache, hash, key } = self;
-            let (key, there) = cache.with(|shard| Self::look(shard, hash, key));
+            let (key, there) = Self::look(cache, hash, key);
             let is_replaced = match there {
                 Some(value) if !replace_if(&value) => return Entry::found(key, value),
                 there => there.is_some(),
             };
-            let make = || Ok::<_, Infallible>(init());
-            let Ok(entry) = cache.with(|shard| shard.put_made(hash, key, is_replaced, make));
+            let make = |()| Ok::<_, Infallible>(init());
+            let Ok(entry) = trying(make, |make| cache.put_made(hash, key, is_replaced, make));
             entry
         }
 
@@ -137,9 +164,9 @@ macro_rules! calls {
         {
             let Self { cache, hash, key } = self;
             // What left by the look-up is dropped or told before the maker is called, which may wait for that.
-            match cache.with(|shard| Self::look(shard, hash, key)) {
+            match Self::look(cache, hash, key) {
                 (key, Some(value)) => Ok(Entry::found(key, value)),
-                (key, None) => cache.with(|shard| shard.put_made(hash, key, false, init)),
+                (key, None) => trying(|()| init(), |make| cache.put_made(hash, key, false, make)),
             }
         }
 
@@ -202,19 +229,10 @@ macro_rules! calls {
             F: FnOnce(Option<Entry<K, V>>) -> Result<Op<V>, E>,
         {
             let Self { cache, hash, key } = self;
-            let (key, there) = cache.with(|shard| Self::look(shard, hash, key));
+            let (key, there) = Self::look(cache, hash, key);
             let there = there.map(|value| Entry::found(Arc::clone(&key), value));
             let op = f(there.clone())?;
-            let kept = Arc::clone(&key);
-            Ok(computed(key, op, there, |value| {
-                cache.with(|shard| match value {
-                    Some(value) => {
-                        shard.insert_kept(hash, kept, value);
-                        None
-                    }
-                    None => shard.remove_kept(hash, &kept),
-                })
-            }))
+            Ok(cache.change(hash, key, op, there))
         }
     };
 }
@@ -225,9 +243,12 @@ impl<'a, K: Eq + Hash + Sync + 'static, V: Clone + 'static, S: BuildHasher> Entr
     }
 
     // The key, the one that is kept if one is, with its value if that is visible, which counts as a read.
-    fn look(shard: &mut Shard<K, V>, hash: u64, key: K) -> (Arc<K>, Option<V>) {
-        let (kept, value) = shard.seek(hash, |kept| *kept == key);
-        (kept.unwrap_or_else(|| Arc::new(key)), value)
+    #[inline]
+    fn look(cache: &mut Cache<K, V, S>, hash: u64, key: K) -> (Arc<K>, Option<V>) {
+        cache.with(|shard| {
+            let (kept, value) = shard.seek(hash, &key);
+            (kept.unwrap_or_else(|| Arc::new(key)), value)
+        })
     }
 
     calls!();
@@ -245,9 +266,12 @@ where
     }
 
     // The same. An owned key is made if none is kept.
-    fn look(shard: &mut Shard<K, V>, hash: u64, key: &Q) -> (Arc<K>, Option<V>) {
-        let (kept, value) = shard.seek(hash, |kept| kept.borrow() == key);
-        (kept.unwrap_or_else(|| Arc::new(key.to_owned())), value)
+    #[inline]
+    fn look(cache: &mut Cache<K, V, S>, hash: u64, key: &Q) -> (Arc<K>, Option<V>) {
+        cache.with(|shard| {
+            let (kept, value) = shard.seek(hash, key);
+            (kept.unwrap_or_else(|| Arc::new(key.to_owned())), value)
+        })
     }
 
     calls!();

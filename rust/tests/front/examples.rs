@@ -4,12 +4,13 @@ use std::fs;
 use std::path::{Path, PathBuf};
 
 // All that these have is the package's own, but for the builders' setters in `settings.rs`.
-const INTERNAL: [&str; 8] = [
+const INTERNAL: [&str; 9] = [
     "key.rs",
     "look_ups.rs",
     "making.rs",
     "mark.rs",
     "notices.rs",
+    "once.rs",
     "random_calls.rs",
     "shard.rs",
     "sync/calls.rs",
