@@ -1,2 +1,3 @@
 pub mod Config
 pub mod Phases
+pub mod Engines

@@ -1,6 +1,7 @@
 //! What a caller sets, as 16 words.
 ghost use Rattle.std.specs.Prelude.{◌≡◌, ◌<◌};
 ghost use Rattle.moka_workload.specs.Config.{additions, config_of, is_served, optional_at, word_at};
+ghost use Rattle.moka_workload.specs.Engines.{plain_config};
 
 use moka_engine::CacheConfig;
 use moka_parts::policy::EvictionPolicy;
@@ -93,7 +94,9 @@ impl Config {
     }
 
     /// What an engine is made with, but for an expiry, a listener and a weigher.
-    pub fn plain(self) -> CacheConfig {
+    pub fn plain(self) -> CacheConfig
+        ensures { result ≡ plain_config self }
+    {
         let policy = if self.is_lru {
             EvictionPolicy::lru()
         } else {

@@ -1,6 +1,7 @@
 //! How an engine is made, and how something is put into it.
 ghost use Rattle.std.specs.Prelude.{◌≡◌, IfOk};
 ghost use Rattle.std.specs.FinMap as finite;
+ghost use Rattle.moka_workload.specs.Engines.{made_with};
 
 use moka_engine::{BaseCache, CacheConfig};
 use moka_parts::calls::Ticket;
@@ -29,7 +30,8 @@ pub fn engine_of<
     given: CacheConfig<X, L, NoPredicate, W>,
     is_automatic: bool,
 ) -> Result<Engine<K, V, S, X, L, W>, OutOfMemory>
-    ensures { IfOk result (λ engine. engine.state.outstanding ≡ finite.empty) }
+    ensures made { IfOk result (λ engine. engine.state ≡ made_with given hasher is_automatic) }
+    ensures unsent { IfOk result (λ engine. engine.state.outstanding ≡ finite.empty) }
 {
     let mut engine = given.build_with_hasher(alloc, hasher, Instant(0))?;
     if !is_automatic {
@@ -71,6 +73,7 @@ impl<
         X: Drop,
         L: Drop,
         W: Drop,
+        ensures { IfOk result (λ driven. driven.engine.state ≡ made_with given hasher is_automatic) }
     {
         let engine = engine_of(alloc, hasher, given, is_automatic)?;
         Ok(Driven { engine })

@@ -1,4 +1,7 @@
 //! The synchronous cache, which sends by itself, and whose runs have a batch of their own.
+ghost use Rattle.std.specs.Prelude.{◌≡◌, IfOk};
+ghost use Rattle.moka_workload.specs.Engines.{made_with, plain_config};
+
 use super::Subject;
 use crate::config::Config;
 use crate::engines::engine_of;
@@ -22,6 +25,8 @@ impl<S: BuildHasher> Synchronous<S> {
     pub fn new(alloc: Global, hasher: S, config: Config) -> Result<Self, OutOfMemory>
     where
         S: Drop,
+        ensures { IfOk result (λ s. s.cache.engine.state
+            ≡ made_with {L = Unit {0}} (plain_config config) hasher config.is_automatic) }
     {
         let engine = engine_of(alloc, hasher, config.plain(), config.is_automatic)?;
         Ok(Synchronous {

@@ -1,4 +1,7 @@
 //! The engine with texts.
+ghost use Rattle.std.specs.Prelude.{◌≡◌, IfOk};
+ghost use Rattle.moka_workload.specs.Engines.{made_with, plain_config};
+
 use super::Subject;
 use crate::config::Config;
 use crate::engines::Driven;
@@ -34,6 +37,8 @@ impl<S: BuildHasher> Texts<S> {
     pub fn new(alloc: Global, hasher: S, config: Config) -> Result<Self, OutOfMemory>
     where
         S: Drop,
+        ensures { IfOk result (λ t. t.driven.engine.state
+            ≡ made_with {L = Unit {0}} (plain_config config) hasher config.is_automatic) }
     {
         Ok(Texts {
             keys: make_texts(alloc, "key-", config.texts)?,

@@ -92,7 +92,8 @@ impl Config {
     }
 
     /// What an engine is made with, but for an expiry, a listener and a weigher.
-    pub fn plain(self) -> CacheConfig {
+    pub fn plain(self) -> CacheConfig
+    {
         let policy = if self.is_lru {
             EvictionPolicy::lru()
         } else {
