@@ -3,3 +3,4 @@ mod Capacities
 mod Limits
 mod NextReads
 mod Playing
+mod Reading

@@ -4,7 +4,7 @@ ghost use Rattle.moka_cache.specs.Limits.{HasSameLimits};
 ghost use Rattle.moka_engine.specs.parts.EvictionPolicy.TheVariants.{Lru, TinyLfu};
 ghost use Rattle.moka_engine.specs.Runs.{IsEmpty};
 ghost use Rattle.moka_hit_ratio.specs.Fifo.{after_read, is_kept};
-ghost use Rattle.moka_hit_ratio.specs.Reads.{CountsIf, IsKept};
+ghost use Rattle.moka_hit_ratio.specs.Reads.{CountsIf, IsRead};
 
 use crate::fifo::Fifo;
 use crate::optimum;
@@ -65,9 +65,11 @@ impl Caches {
 
     /// Reads a key through each, and counts what each has found, if that is asked for.
     fn read(&mut self, key: u64, is_counted: bool) -> Result<()>
-        ensures tiny_lfu { IfOk result (λ _. (found : Bool) × IsKept self.old.tiny_lfu.cache.engine.state key found
+        ensures tiny_lfu { IfOk result (λ _. (found : Bool)
+            × IsRead key found self.old.tiny_lfu.cache.engine self.new.tiny_lfu.cache.engine
             × CountsIf is_counted found self.old.row.tiny_lfu self.new.row.tiny_lfu) }
-        ensures lru { IfOk result (λ _. (found : Bool) × IsKept self.old.lru.cache.engine.state key found
+        ensures lru { IfOk result (λ _. (found : Bool)
+            × IsRead key found self.old.lru.cache.engine self.new.lru.cache.engine
             × CountsIf is_counted found self.old.row.lru self.new.row.lru) }
         ensures fifo { IfOk result (λ _. CountsIf is_counted (is_kept key self.old.fifo.queue.items)
             self.old.row.fifo self.new.row.fifo) }

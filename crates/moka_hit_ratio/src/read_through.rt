@@ -3,7 +3,7 @@ ghost use Rattle.std.specs.Prelude.{◌≡◌, false, Some, IfOk};
 ghost use Rattle.moka_cache.specs.Limits.{HasSameLimits};
 ghost use Rattle.moka_engine.specs.Exact.{IsExact, IsWithin};
 ghost use Rattle.moka_engine.specs.Runs.{IsEmpty};
-ghost use Rattle.moka_hit_ratio.specs.Reads.{IsKept};
+ghost use Rattle.moka_hit_ratio.specs.Reads.{IsRead};
 
 use anyhow::Result;
 use moka_cache::Cache;
@@ -46,7 +46,7 @@ impl ReadThrough {
     /// # Errors
     /// What a read or an insert was refused for.
     pub fn read(&mut self, key: u64) -> Result<bool>
-        ensures found { IfOk result (IsKept self.old.cache.engine.state key) }
+        ensures read { IfOk result (λ found. IsRead key found self.old.cache.engine self.new.cache.engine) }
         ensures within { IfOk result (λ found. found ≡ false
             → IsWithin self.new.cache.engine.state.capacity self.new.cache.engine.state.access) }
         ensures exact { IfOk result (λ found. found ≡ false → IsExact self.new.cache.engine.state) }
