@@ -3,4 +3,5 @@ mod Capacities
 mod Limits
 mod NextReads
 mod Playing
+mod Reached
 mod Reading

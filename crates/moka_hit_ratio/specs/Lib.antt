@@ -4,3 +4,4 @@ pub mod Line
 pub mod Optimum
 pub mod Ratios
 pub mod Rows
+pub mod Through

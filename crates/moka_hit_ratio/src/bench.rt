@@ -1,10 +1,10 @@
 //! The caches that a trace is played through, and what comes of it.
-ghost use Rattle.std.specs.Prelude.{◌≡◌, ◌+◌, ◌-◌, ◌^◌, Bool, [], length, map, vec_len, Some, None, IfOk, min};
+ghost use Rattle.std.specs.Prelude.{◌≡◌, ◌+◌, ◌-◌, ◌^◌, [], length, map, nat_le, vec_len, Some, None, IfOk, min};
+ghost use Rattle.std.specs.List.{AllZip};
 ghost use Rattle.moka_cache.specs.Limits.{HasSameLimits};
 ghost use Rattle.moka_engine.specs.parts.EvictionPolicy.TheVariants.{Lru, TinyLfu};
 ghost use Rattle.moka_engine.specs.Runs.{IsEmpty};
-ghost use Rattle.moka_hit_ratio.specs.Fifo.{after_read, is_kept};
-ghost use Rattle.moka_hit_ratio.specs.Reads.{CountsIf, IsRead};
+ghost use Rattle.moka_hit_ratio.specs.Through.{AreRead};
 
 use crate::fifo::Fifo;
 use crate::optimum;
@@ -65,16 +65,7 @@ impl Caches {
 
     /// Reads a key through each, and counts what each has found, if that is asked for.
     fn read(&mut self, key: u64, is_counted: bool) -> Result<()>
-        ensures tiny_lfu { IfOk result (λ _. (found : Bool)
-            × IsRead key found self.old.tiny_lfu.cache.engine self.new.tiny_lfu.cache.engine
-            × CountsIf is_counted found self.old.row.tiny_lfu self.new.row.tiny_lfu) }
-        ensures lru { IfOk result (λ _. (found : Bool)
-            × IsRead key found self.old.lru.cache.engine self.new.lru.cache.engine
-            × CountsIf is_counted found self.old.row.lru self.new.row.lru) }
-        ensures fifo { IfOk result (λ _. CountsIf is_counted (is_kept key self.old.fifo.queue.items)
-            self.old.row.fifo self.new.row.fifo) }
-        ensures queue { IfOk result (λ _. self.new.fifo.queue.items
-            ≡ after_read self.old.fifo.capacity key self.old.fifo.queue.items) }
+        ensures read { IfOk result (λ _. AreRead key is_counted self.old self.new) }
         ensures limits { HasSameLimits self.old.tiny_lfu.cache.engine.state self.new.tiny_lfu.cache.engine.state
             × HasSameLimits self.old.lru.cache.engine.state self.new.lru.cache.engine.state
             × (self.new.fifo.capacity ≡ self.old.fifo.capacity) }
@@ -159,6 +150,8 @@ impl Bench {
         ensures caches { vec_len self.new.caches ≡ vec_len self.old.caches }
         ensures capacities { IfOk result (λ _. map (λ c. c.row.capacity) self.new.caches.items
             ≡ map (λ c. c.row.capacity) self.old.caches.items) }
+        ensures read { IfOk result (λ _. AllZip (AreRead key (nat_le self.old.warm self.old.reads))
+            self.old.caches.items self.new.caches.items) }
         ensures warm { self.new.warm ≡ self.old.warm }
         ensures reads { IfOk result (λ _. self.new.reads ≡ min (self.old.reads + 1) (2 ^ 64 - 1)) }
     {
