@@ -106,29 +106,16 @@ plain_text reply = []
 -- a reply, without its line feed
 abbrev pub reply_text : Reply ℕ (List ℕ) KeyRange → List ℕ
 reply_text (Insert (Ok written)) = codes "ticket " ++ decimal written.0.0
-reply_text (Insert (Err refused)) = insert_error_text refused.error
-reply_text (Disabled key value) = codes "disabled"
-reply_text (Send (Ok _)) = codes "sent"
-reply_text (Send (Err error)) = send_error_text error
 reply_text (Get (Ok (Some entry))) = codes "value " ++ entry.value
-reply_text (Get (Ok None)) = codes "none"
-reply_text (Get (Err _)) = codes "refused memory"
 reply_text (GetUnrecorded found) = value_text found
-reply_text (Contains is_there) = if is_there then codes "yes" else codes "no"
 reply_text (Key found) = key_text found
 reply_text (Scan found) = value_text found
 reply_text (Remove removed told) = removal_text removed told
-reply_text InvalidateAll = codes "ok"
 reply_text (InvalidateIf (Ok id)) = codes "predicate " ++ hyphenated_text lower id
-reply_text (InvalidateIf (Err refused)) = predicate_error_text refused.error
-reply_text (Run is_more_left) = if is_more_left then codes "more" else codes "done"
-reply_text RunIfDue = codes "ok"
-reply_text DisableAutoRun = codes "ok"
 reply_text (Keys keys) = keys_text keys
 reply_text (Report count weight predicates) = report_text count weight predicates
 reply_text (Pending handed oldest writes reads) = pending_text handed oldest writes reads
-reply_text (SetCapacity (Ok _)) = codes "ok"
-reply_text (SetCapacity (Err _)) = codes "refused zero"
+reply_text reply = plain_text reply
 
 -- a line for each reply
 abbrev pub reply_lines : List (Reply ℕ (List ℕ) KeyRange) → List ℕ

@@ -1,5 +1,5 @@
 //! The settings of a script.
-ghost use Rattle.std.specs.Prelude.{◌≡◌, Some, None, if◌then◌else◌};
+ghost use Rattle.std.specs.Prelude.{◌≡◌, true, false, Some, None, if◌then◌else◌};
 ghost use Rattle.moka_script.specs.Lex.{texts};
 ghost use Rattle.moka_script.specs.Settings.{filled, raised, ids_given, ids_of, keeper_of, keeper_terms, numbered_setting, policy_of, policy_named, question_named, rule_line, rule_of, rule_said, setting_of};
 
@@ -94,7 +94,8 @@ impl Settings {
 
 /// Fills a place, unless it has a value already. Whether it had none.
 fn fill<T: Copy>(place: &mut Option<T>, value: T) -> bool
-    ensures { filled place.old value ≡ (if result then Some place.new else None) }
+    ensures filled { filled place.old value ≡ (if result then Some place.new else None) }
+    ensures kept { result ≡ false → place.new ≡ place.old }
 {
     if place.is_some() {
         return false;
@@ -105,7 +106,8 @@ fn fill<T: Copy>(place: &mut Option<T>, value: T) -> bool
 
 /// Raises a flag, unless it is raised already. Whether it was not.
 fn raise(flag: &mut bool) -> bool
-    ensures { raised flag.old ≡ (if result then Some flag.new else None) }
+    ensures raised { raised flag.old ≡ (if result then Some flag.new else None) }
+    ensures set { flag.new ≡ true }
 {
     let is_new = !*flag;
     *flag = true;
