@@ -1,21 +1,13 @@
 -- Synchronous caches side by side, and what a call makes of one of them.
-use Rattle.std.specs.Prelude.{◌≡◌, ℕ, List, slice_set}
+use Rattle.std.specs.Prelude.{◌≡◌, ℕ, List}
 use Rattle.moka_calls.specs.Synchronous.{Synchronous}
 use Rattle.moka_router.specs.Routing.{Routing}
-pub use Rattle.moka_router.specs.Lending.{IsAt}
+pub use Rattle.moka_router.specs.Lending.{IsAt, StepsAt}
 
 -- the segments, and which keys are whose
 pub record Segmented (K V S X L P W : Type 0) : Type 0 where
   pub routing : Routing S
   pub segments : List (Synchronous K V S X L P W)
-
--- the element at the index made a step, and every other is as it was
-pub record StepsAt {A : Type 0} (index : ℕ) (Step : A → A → Type 0) (xs ys : List A) : Type 0 where
-  pub before : A
-  pub after : A
-  pub there : IsAt xs index before
-  pub step : Step before after
-  pub others : ys ≡ slice_set xs index after
 
 -- the same of the segments of a cache
 pub record Steps {K V S X L P W : Type 0} (index : ℕ)

@@ -10,6 +10,7 @@ ghost use Rattle.moka_router.specs.Routing.{segment_of};
 ghost use Rattle.moka_segments.specs.Segmented.{Holds, HoldsIfThere, IsAt, Steps as StepsIn};
 ghost use Rattle.moka_cache.specs.Keyed.{CanNotify, Inserts, Gets, IsOfClone, IsOfInsert, Removes, GetsWith, GetsWithIfMade, GetsWithIfNoError};
 
+use moka_cache::each::insert_into_own;
 use moka_cache::{Cache, GetWithRefused, NotTold};
 use moka_engine::config::DefaultHasher;
 use moka_parts::closures::{NoPredicate, NoWeigher, PredicateFn, Weigher};
@@ -197,7 +198,7 @@ impl<
             self.old self.new }
         ensures back { IfErr result (λ refused. (refused.key ≡ key) × (refused.value ≡ value)) }
     {
-        self.own_segment(&key).insert(key, value, now, clock)
+        insert_into_own(&mut self.segments, &self.router, key, value, now, clock)
     }
 
     /// A clone of a key's value, if the key is there and visible at the moment `now`. The read is queued.

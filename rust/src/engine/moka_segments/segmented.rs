@@ -2,6 +2,7 @@
 //! The segmented cache, and its calls by key. moka: `sync::segment`.
 use crate::support::prelude::*;
 
+use crate::engine::moka_cache::each::insert_into_own;
 use crate::engine::moka_cache::{Cache, GetWithRefused, NotTold};
 use crate::engine::moka_engine::config::DefaultHasher;
 use crate::engine::moka_parts::closures::{NoPredicate, NoWeigher, PredicateFn, Weigher};
@@ -119,7 +120,7 @@ impl<
         clock: &mut C,
     ) -> Result<(), InsertRefused<K, V>>
     {
-        self.own_segment(&key).insert(key, value, now, clock)
+        insert_into_own(&mut self.segments, &self.router, key, value, now, clock)
     }
 
     /// A clone of a key's value, if the key is there and visible at the moment `now`. The read is queued.
