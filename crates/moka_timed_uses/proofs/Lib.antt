@@ -4,3 +4,4 @@ pub mod Named
 pub mod Among
 pub mod Limited
 pub mod LoggedOut
+pub mod Bound

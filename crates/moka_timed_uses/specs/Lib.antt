@@ -3,3 +3,4 @@ pub mod Borrowed
 pub mod Restarted
 pub mod Logins
 pub mod Joined
+pub mod Shared

@@ -1,4 +1,4 @@
-//! Callers of the cache that owns its clock, each proved, to be read and copied.
+//! Callers of the cache that owns its clock and of the cache in segments, each proved, to be read and copied.
 #![tactic(auto)]
 
 pub mod borrowed;
@@ -7,3 +7,4 @@ pub mod logins;
 pub mod profiles;
 pub mod restarted;
 pub mod sessions;
+pub mod shared;

@@ -3,3 +3,10 @@ pub mod Found
 pub mod Covered
 pub mod Batched
 pub mod Visited
+pub mod SentAfterAll
+pub mod HandedBack
+pub mod Both
+pub mod Room
+pub mod Told
+pub mod Ended
+pub mod Followed

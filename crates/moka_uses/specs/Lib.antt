@@ -3,3 +3,12 @@ pub mod Visits
 pub mod Released
 pub mod Handled
 pub mod ReadThrough
+pub mod Hidden
+pub mod Ordered
+pub mod Driven
+pub mod Refused
+pub mod Resized
+pub mod Asked
+pub mod Notified
+pub mod Late
+pub mod Weighed

@@ -4,6 +4,4 @@ pub mod moka_restore_laws;
 pub mod moka_segment_laws;
 pub mod moka_workload;
 pub mod moka_uses;
-pub mod moka_engine_uses;
 pub mod moka_timed_uses;
-pub mod moka_segment_uses;

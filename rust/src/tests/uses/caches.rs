@@ -1,8 +1,8 @@
 //! Tests of callers of the synchronous cache.
 
 use super::NOW;
-use crate::callers::moka_engine_uses::invalidated::CountedIds;
 use crate::callers::moka_uses::batches::{ask, drop_all, load};
+use crate::callers::moka_uses::invalidated::CountedIds;
 use crate::callers::moka_uses::read_through::look_up;
 use crate::callers::moka_uses::released::{Connections, Places, close};
 use crate::callers::moka_uses::selected::put_if_absent;

@@ -1,16 +1,16 @@
 //! Tests of callers of the engine, who send its operations themselves.
 
 use super::NOW;
-use crate::callers::moka_engine_uses::asked::ask_twice;
-use crate::callers::moka_engine_uses::bounded;
-use crate::callers::moka_engine_uses::expiring::{Opened, is_open_at};
-use crate::callers::moka_engine_uses::late::send_in_other_order;
-use crate::callers::moka_engine_uses::notified::{Counter, replace};
-use crate::callers::moka_engine_uses::ordered::{age_out, put_last};
-use crate::callers::moka_engine_uses::refused::{may_put_again, put, send_after_all};
-use crate::callers::moka_engine_uses::resized::shrink_and_grow;
-use crate::callers::moka_engine_uses::weighed::keep_two;
+use crate::callers::moka_uses::asked::ask_twice;
+use crate::callers::moka_uses::bounded;
+use crate::callers::moka_uses::expiring::{Opened, is_open_at};
+use crate::callers::moka_uses::late::send_in_other_order;
+use crate::callers::moka_uses::notified::{Counter, replace};
+use crate::callers::moka_uses::ordered::{age_out, put_last};
+use crate::callers::moka_uses::refused::{may_put_again, put, send_after_all};
+use crate::callers::moka_uses::resized::shrink_and_grow;
 use crate::callers::moka_uses::texts;
+use crate::callers::moka_uses::weighed::keep_two;
 use crate::engine::moka_engine::{CacheConfig, Engine, InsertError, InsertRefused, Instant};
 use crate::support::alloc::Global;
 use std::time::Duration;

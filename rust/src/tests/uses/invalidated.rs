@@ -1,9 +1,9 @@
-//! Tests of `moka_engine_uses::driven` and `moka_engine_uses::invalidated`: a list of calls puts numbers in, which a
+//! Tests of `moka_uses::driven` and `moka_uses::invalidated`: a list of calls puts numbers in, which a
 //! predicate hides.
 
 use super::NOW;
-use crate::callers::moka_engine_uses::driven::make_calls;
-use crate::callers::moka_engine_uses::invalidated::{Below, CountedIds, Numbers, hide_below, run_after_hiding};
+use crate::callers::moka_uses::driven::make_calls;
+use crate::callers::moka_uses::invalidated::{Below, CountedIds, Numbers, hide_below, run_after_hiding};
 use crate::engine::moka_engine::{CacheConfig, Call, FixedClock, Reply};
 use crate::support::alloc::Global;
 use crate::support::vec;

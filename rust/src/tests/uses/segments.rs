@@ -1,7 +1,7 @@
-//! Tests of `moka_segment_uses::shared`: a cache in segments.
+//! Tests of `moka_timed_uses::shared`: a cache in segments.
 
 use super::NOW;
-use crate::callers::moka_segment_uses::shared::{get_or_put, keep_bound, put_and_find, put_where_it_belongs};
+use crate::callers::moka_timed_uses::shared::{get_or_put, keep_bound, put_and_find, put_where_it_belongs};
 use crate::engine::moka_engine::{CacheConfig, FixedClock};
 use crate::engine::moka_segments::SegmentedCache;
 use crate::support::alloc::Global;

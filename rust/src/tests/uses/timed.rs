@@ -2,13 +2,13 @@
 //! Most set a `FixedClock`, for which other tests have the cache compiled as well; one advances a `ManualClock`.
 
 use super::NOW;
-use crate::callers::moka_engine_uses::invalidated::CountedIds;
 use crate::callers::moka_timed::ManualClock;
 use crate::callers::moka_timed_uses::joined::put_and_find;
 use crate::callers::moka_timed_uses::profiles::{self, Profiles};
 use crate::callers::moka_timed_uses::restarted::{hand_over, save, start_again, start_again_within};
 use crate::callers::moka_timed_uses::sessions::{Sessions, log_in, log_out, start, touch};
 use crate::callers::moka_timed_uses::{borrowed, logins};
+use crate::callers::moka_uses::invalidated::CountedIds;
 use crate::engine::moka_engine::{FixedClock, Instant};
 use crate::support::alloc::Global;
 use std::time::Duration;

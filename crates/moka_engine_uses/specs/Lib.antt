@@ -1,9 +1,0 @@
-pub mod Hidden
-pub mod Ordered
-pub mod Driven
-pub mod Refused
-pub mod Resized
-pub mod Asked
-pub mod Notified
-pub mod Late
-pub mod Weighed

@@ -1,4 +1,0 @@
-//! Callers of the cache in segments, each proved, to be read and copied.
-#![tactic(auto)]
-
-pub mod shared;
