@@ -60,7 +60,7 @@ impl<S> Router<S> {
     }
 
     /// The share of `capacity` of the segment at `index`. The shares of all segments sum to `capacity`
-    /// (`moka_segment_laws::laws::shares_sum`).
+    /// (`moka_segments::laws::shares_sum`).
     #[tactic(auto, unfolding(crate::specs::Routing::share))]
     pub fn share(&self, capacity: u64, index: u32) -> u64
         ensures { result ≡ share self.now.count capacity index }

@@ -7,3 +7,8 @@ pub mod NewSegments
 pub mod Listed
 pub mod Registered
 pub mod Keys
+pub mod ForAllCalls
+pub mod Apart
+pub mod Moving
+pub mod Belonging
+pub mod KeptInPlace

@@ -5,3 +5,5 @@ pub mod Listing
 pub mod Registering
 pub mod Keys
 pub mod Built
+pub mod Laws
+pub mod Moves

@@ -3,6 +3,7 @@
 
 pub mod building;
 pub mod iter;
+pub mod laws;
 pub mod predicates;
 pub mod segmented;
 pub mod whole;

@@ -9,7 +9,7 @@ use Rattle.moka_cache.specs.parts.CacheEntry.{CacheEntry}
 use Rattle.moka_cache.specs.Entry.{OrInserts}
 use Rattle.moka_cache.specs.Synchronous.{GetsOrInserts}
 use Rattle.moka_router.specs.Routing.{segment_of}
-use Rattle.moka_segment_laws.specs.Moves.{IsOneMove, MovesBy, for_all_calls}
+use Rattle.moka_segments.specs.Moves.{IsOneMove, MovesBy, for_all_calls}
 use Rattle.moka_segments.specs.Segmented.{Segmented, Steps}
 use Rattle.moka_cache.specs.Keyed.{Gets, Inserts}
 use Rattle.moka_segments.specs.Whole.{AllRan}

@@ -7,8 +7,8 @@ ghost use Rattle.moka_engine.specs.Records.{record_of_key};
 ghost use Rattle.moka_cache.specs.Synchronous.{meaning_of};
 ghost use Rattle.moka_router.specs.Routing.{segment_of};
 ghost use Rattle.moka_segments.specs.Keys.{AreInOneSegment, KeysBelong};
+ghost use Rattle.moka_segments.specs.Moves.{InsertsThenGets};
 ghost use Rattle.moka_segments.specs.Segmented.{Steps};
-ghost use Rattle.moka_segment_laws.specs.Moves.{InsertsThenGets};
 ghost use Rattle.moka_segments.specs.Whole.{saturated, total, whole_capacity};
 ghost use Rattle.moka_timed_uses.specs.Shared.{EachRan, GetsOrPuts, InsertsAndFinds, InsertsInOne, OrInsertsInOne};
 
@@ -16,11 +16,11 @@ use moka_cache::CacheEntry;
 use moka_engine::{
     Clock, Expiry, FixedClock, InsertRefused, Instant, Listener, OutOfMemory, PredicateFn, Weigher,
 };
-use moka_segment_laws::laws::{
+use moka_segments::SegmentedCache;
+use moka_segments::laws::{
     calls_by_key_are_moves, calls_by_key_keep_keys, lent_calls_are_moves, one_segment_each,
     own_calls_run,
 };
-use moka_segments::SegmentedCache;
 use moka_uses::selected::put_if_absent;
 use std::hash::{BuildHasher, Hash};
 

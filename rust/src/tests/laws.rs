@@ -102,7 +102,7 @@ fn of_restores() {
 
 #[test]
 fn of_segments() {
-    use crate::callers::moka_segment_laws::laws::*;
+    use crate::engine::moka_segments::laws::*;
     call_each!(
         [each_runs, calls_of_all_are_moves] with (
             u64, u64, (), NoExpiry, NoListener, NoPredicate, NoWeigher, FixedClock
@@ -119,7 +119,7 @@ fn of_segments() {
 
 #[test]
 fn of_makers_in_segments() {
-    use crate::callers::moka_segment_laws::laws::*;
+    use crate::engine::moka_segments::laws::*;
     call_each!(
         [get_with_is_move, get_with_keeps_keys] with (
             u64, u64, DefaultHasher, NoExpiry, NoListener, NoPredicate, NoWeigher, FixedClock, fn() -> u64
@@ -135,7 +135,7 @@ fn of_makers_in_segments() {
 
 #[test]
 fn of_predicates_in_segments() {
-    use crate::callers::moka_segment_laws::laws::*;
+    use crate::engine::moka_segments::laws::*;
     call_each!(
         [registering_is_moves] with (
             u64, u64, (), NoExpiry, NoListener, NoPredicate, NoWeigher, FixedClock, OneId, fn() -> NoPredicate

@@ -6,11 +6,11 @@ use crate::engine::moka_cache::CacheEntry;
 use crate::engine::moka_engine::{
     Clock, Expiry, FixedClock, InsertRefused, Instant, Listener, OutOfMemory, PredicateFn, Weigher,
 };
-use crate::callers::moka_segment_laws::laws::{
+use crate::engine::moka_segments::SegmentedCache;
+use crate::engine::moka_segments::laws::{
     calls_by_key_are_moves, calls_by_key_keep_keys, lent_calls_are_moves, one_segment_each,
     own_calls_run,
 };
-use crate::engine::moka_segments::SegmentedCache;
 use crate::callers::moka_uses::selected::put_if_absent;
 use crate::support::hash::{BuildHasher, Hash};
 

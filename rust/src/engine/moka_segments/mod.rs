@@ -4,6 +4,7 @@ use crate::support::prelude::*;
 
 pub mod building;
 pub mod iter;
+pub mod laws;
 pub mod predicates;
 pub mod segmented;
 pub mod whole;

@@ -1,5 +1,5 @@
 use Rattle.std.proofs.Common.{refl, [], ◌∷◌}
-use Rattle.moka_segment_laws.specs.Laws.{Move}
+use Rattle.moka_segments.specs.Laws.{Move}
 use Rattle.moka_timed_uses.proofs.shared.get_or_put.Goals as goal
 
 pub returns-clause-made : goal.returns-clause-made

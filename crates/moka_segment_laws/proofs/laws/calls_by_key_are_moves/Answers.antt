@@ -1,5 +1,0 @@
-use Rattle.moka_segment_laws.proofs.Moving.{calls_by_key}
-use Rattle.moka_segment_laws.proofs.laws.calls_by_key_are_moves.Goals as goal
-
-pub returns : goal.returns
-returns g c = calls_by_key _ _ _ _

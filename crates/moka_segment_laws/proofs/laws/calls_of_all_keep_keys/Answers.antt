@@ -1,5 +1,0 @@
-use Rattle.moka_segment_laws.proofs.KeptInPlace.{calls_of_all}
-use Rattle.moka_segment_laws.proofs.laws.calls_of_all_keep_keys.Goals as goal
-
-pub returns : goal.returns
-returns g c = calls_of_all _ _

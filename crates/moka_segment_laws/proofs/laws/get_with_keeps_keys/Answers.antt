@@ -1,6 +1,0 @@
-use Rattle.moka_segment_laws.proofs.KeptInPlace.{get_with}
-use Rattle.moka_records.specs.Hashing.{key_hash}
-use Rattle.moka_segment_laws.proofs.laws.get_with_keeps_keys.Goals as goal
-
-pub returns : goal.returns
-returns g c = get_with (λ h k. key_hash g.S.BuildHasher g.S.Hasher.Hasher h (g.K.Hash.hash_input k)) _ (λ _ _. ⊥) _ _

@@ -1,5 +1,0 @@
-use Rattle.moka_segment_laws.proofs.Belonging as belonging
-use Rattle.moka_segment_laws.proofs.laws.keys_stay.Goals as goal
-
-pub returns : goal.returns
-returns g c = belonging.keys_stay _ _

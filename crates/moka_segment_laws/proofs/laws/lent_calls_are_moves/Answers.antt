@@ -1,5 +1,0 @@
-use Rattle.moka_segment_laws.proofs.Moving.{lent_calls}
-use Rattle.moka_segment_laws.proofs.laws.lent_calls_are_moves.Goals as goal
-
-pub returns : goal.returns
-returns g c = lent_calls _ _ _

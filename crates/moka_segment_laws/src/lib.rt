@@ -1,4 +1,0 @@
-//! Laws of the cache in segments, which callers may cite.
-#![tactic(auto)]
-
-pub mod laws;
