@@ -2,8 +2,9 @@
 
 Rattle's sources are Rust's, with clauses and ghost items among them. `deleted` takes these out and changes nothing
 else; `same_code.py` shows that Rattle's compiler makes the same code of the outcome. `erased` does the same, and then
-what Rust has otherwise: bounds and impls of `Drop` go, and paths and a few calls are renamed. A form that no rule
-knows is refused, and so is an outcome that has more than the forms of Rust's that are listed here.
+what Rust has otherwise: bounds and impls of `Drop` and functions that are exported to C go, and paths and a few calls
+are renamed. A form that no rule knows is refused, and so is an outcome that has more than the forms of Rust's that are
+listed here.
 """
 
 import collections
@@ -59,6 +60,8 @@ IMPL_DROP = re.compile(
     r"    fn drop\(self\)\s*\{\s*let \w+ \{([^}]*)\} = self;\s*\}\n\}\n",
     re.M | re.S,
 )
+# A function that is exported to C: in Rust this is `unsafe`, and what it calls is called instead.
+EXPORTED = r"""^(?:///.*\n)*#\[unsafe\(no_mangle\)\]\npub extern "C" fn [^{}]*\{\n(?:(?!\}).*\n)*\}\n"""
 
 
 class Refused(Exception):
@@ -232,7 +235,7 @@ def refuse_left_over(text):
 
 def erased(text, crate, homes):
     """A source as an ordinary module of Rust."""
-    text = deleted(text)
+    text = change("a function exported to C", EXPORTED, "", deleted(text))
     before = literals(text)
     text = change("a tactic", r"^[ \t]*#!?\[tactic\([^\]]*\)\]\n", "", text)
     # Blank space and comments that spoke of what is gone.

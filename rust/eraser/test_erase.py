@@ -50,6 +50,11 @@ class Deletes(unittest.TestCase):
         text += "        let A { a: _, b: _ } = self;\n    }\n}\nfn f() {}\n"
         self.assertEqual(made(text), "fn f() {}\n")
 
+    def test_functions_exported_to_c(self):
+        text = "fn a() {}\n\n/// B.\n#[unsafe(no_mangle)]\npub extern \"C\" fn b(\n    c: &[u8],\n) -> u64\n"
+        text += "    ensures { c }\n{\n    if c {\n        a()\n    }\n}\n\nfn d() {}\n"
+        self.assertEqual(made(text), "fn a() {}\n\nfn d() {}\n")
+
     def test_leaves_strings_and_comments(self):
         text = 'fn f() -> &str { "ghost use {" }\n// requires { a }\n'
         self.assertEqual(deleted(text), text)
@@ -120,7 +125,8 @@ class Refuses(unittest.TestCase):
     def test_attributes(self):
         self.refuses("an attribute", "#[decreases(n)]\nfn f() {}\n", "#[lemma]\nfn f() {}\n", "#![no_std]\n",
                      "#[derive(Eq, Frob)]\nstruct A;\n", "#[derive(Eq, Drop, Frob)]\nstruct A;\n",
-                     "#[inline(often)]\nfn f() {}\n", "#[test]\nfn f() {}\n", "#[cfg(test)]\nmod a;\n")
+                     "#[inline(often)]\nfn f() {}\n", "#[unsafe(no_mangle)]\nfn f() {}\n", "#[test]\nfn f() {}\n",
+                     "#[cfg(test)]\nmod a;\n")
 
     def test_macros(self):
         self.refuses("a macro", "fn f() { assume!{ a } }\n", "fn f() { assume !(a) }\n",

@@ -1,7 +1,7 @@
 //! The streams of operations that the bench drives caches by: that settings are followed, what is counted, and what
 //! is refused.
 
-use crate::callers::moka_workload::run;
+use crate::callers::moka_bench::run;
 use crate::support::alloc::Global;
 
 /// Stands for no capacity, no time to live and no time to idle.

@@ -3,7 +3,7 @@ use Rattle.std.specs.Prelude.{ℕ, ◌+◌, ◌-◌, ◌/◌, ◌^◌, min, Bool
 use Rattle.std.specs.Int.{w64, from_le_bytes}
 use Rattle.std.specs.Option.{option_map_or}
 use Rattle.std.specs.Simd.{first_chunks}
-use Rattle.moka_workload.specs.declared.config.Config.{Config}
+use Rattle.moka_bench.specs.declared.config.Config.{Config}
 
 -- the word at an index, with the least byte first, and 0 past the end
 abbrev pub word_at : List ℕ → ℕ → ℕ

@@ -1,6 +1,6 @@
 use Rattle.std.proofs.Common.{◌≡◌, length, ◌-◌, ◌≤◌}
-use Rattle.moka_workload.specs.Phases.{is_stream}
-use Rattle.moka_workload.proofs.phases.drive.Given as goal
+use Rattle.moka_bench.specs.Phases.{is_stream}
+use Rattle.moka_bench.proofs.phases.drive.Given as goal
 
 -- what is left is a stream exactly where the whole is one
 abbrev pub invariant-loop : goal.invariant-loop

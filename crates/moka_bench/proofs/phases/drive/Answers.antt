@@ -1,7 +1,7 @@
 use Rattle.std.proofs.Common.{◌≡◌, suc, ◌+◌, ◌-◌, ◌<◌, ◌≤◌, length, drop, refl, sym, ap, ◌∙◌, arith}
-use Rattle.moka_workload.specs.Phases.{is_known, is_stream, number_at}
-use Rattle.moka_workload.proofs.FirstPhase.{short, no-words, not-known, goes-on}
-use Rattle.moka_workload.proofs.phases.drive.Goals as goal
+use Rattle.moka_bench.specs.Phases.{is_known, is_stream, number_at}
+use Rattle.moka_bench.proofs.FirstPhase.{short, no-words, not-known, goes-on}
+use Rattle.moka_bench.proofs.phases.drive.Goals as goal
 
 pub returns-then-rest-lt-HEADER : goal.returns-then-rest-lt-HEADER
 returns-then-rest-lt-HEADER g c =

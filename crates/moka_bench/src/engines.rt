@@ -1,7 +1,7 @@
 //! How an engine is made, and how something is put into it.
 ghost use Rattle.std.specs.Prelude.{◌≡◌, IfOk};
 ghost use Rattle.std.specs.FinMap as finite;
-ghost use Rattle.moka_workload.specs.Engines.{made_with};
+ghost use Rattle.moka_bench.specs.Engines.{made_with};
 
 use moka_engine::{BaseCache, CacheConfig};
 use moka_parts::calls::Ticket;

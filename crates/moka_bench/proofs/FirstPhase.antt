@@ -1,7 +1,7 @@
 -- A stream by its first phase.
 use Rattle.std.proofs.Common.{◌≡◌, ℕ, zero, suc, ◌-◌, ◌<◌, ◌≤◌, true, false, ◌&&◌, List, length, drop, nat_eq, nat_lt, nat_le, refl, ap, ◌∙◌}
 use Rattle.std.proofs.lemmas.Bool.{cond-true, cond-false, lt-ltb, le-ltb, le-leb, lt-leb}
-use Rattle.moka_workload.specs.Phases.{is_known, is_stream, number_at}
+use Rattle.moka_bench.specs.Phases.{is_known, is_stream, number_at}
 
 -- a phase whose header is cut short is none
 pub short : (k : ℕ) (ws : List (List ℕ)) → length ws < 4 → is_stream k ws ≡ nat_eq (length ws) 0

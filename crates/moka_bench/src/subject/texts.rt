@@ -1,6 +1,6 @@
 //! The engine with texts.
 ghost use Rattle.std.specs.Prelude.{◌≡◌, IfOk};
-ghost use Rattle.moka_workload.specs.Engines.{made_with, plain_config};
+ghost use Rattle.moka_bench.specs.Engines.{made_with, plain_config};
 
 use super::Subject;
 use crate::config::Config;

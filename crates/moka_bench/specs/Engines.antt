@@ -5,7 +5,7 @@ use Rattle.moka_parts.specs.Housekeeping.{without_automatic}
 use Rattle.moka_parts.specs.State.{State}
 use Rattle.moka_engine.specs.Config as engine
 use Rattle.moka_engine.specs.Config.{default_config, new_engine}
-use Rattle.moka_workload.specs.declared.config.Config.{Config}
+use Rattle.moka_bench.specs.declared.config.Config.{Config}
 
 -- what an engine is made with for these settings, but for an expiry, a listener and a weigher
 abbrev pub plain_config : {X L W : Type 0} → Config → engine.Config X L W
