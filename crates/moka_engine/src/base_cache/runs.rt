@@ -9,6 +9,7 @@ ghost use Rattle.moka_parts.specs.Runs.{Befalls};
 ghost use Rattle.moka_parts.specs.Settling.{IsValid, leaves_more_idle};
 ghost use Rattle.moka_parts.specs.State.{is_disabled};
 ghost use Rattle.moka_parts.specs.Surroundings.{Leads};
+ghost use Rattle.moka_records.specs.Records.{total_weight};
 ghost use Rattle.moka_records.specs.Time.{greatest};
 ghost use Rattle.moka_types.specs.declared.calls.Call.TheVariants as call;
 ghost use Rattle.moka_types.specs.declared.calls.Reply.TheVariants as reply;
@@ -24,6 +25,7 @@ use moka_parts::housekeeper::{Clock, InnerSync};
 use moka_parts::notification::Listener;
 use moka_parts::policy::{Expiry, Instant};
 use moka_parts::records::ReadOperation;
+use moka_store::Store;
 use std::hash::{BuildHasher, Hash};
 use std::time::Duration;
 
@@ -102,9 +104,9 @@ impl<
         let ran = self
             .inner
             .make_passes(&mut self.notifier, &mut self.invalidator, clock, terms);
-        let store = self.inner.store();
-        self.entry_count = store.member_count() as u64;
-        self.weighted_size = saturated(store.total_weight());
+        let (count, weight) = report_of(self.inner.store());
+        self.entry_count = count;
+        self.weighted_size = weight;
         self.passes = ran.passes;
         ran.has_more
     }
@@ -232,9 +234,12 @@ fn limit_of_run(is_listening: bool, limit: Option<Duration>) -> Option<Duration>
     if is_listening { limit } else { None }
 }
 
-// The weight, or the greatest number if the weight is greater.
-fn saturated(weight: u128) -> u64
-    ensures { result ≡ min weight greatest }
+// What a run reports: how many members there are, and their weight, saturating.
+fn report_of<K: Eq + Hash, V, S: BuildHasher>(store: &Store<K, V, S>) -> (u64, u64)
+    ensures count { result.0 ≡ length store.now.access }
+    ensures weight { result.1 ≡ min (total_weight store.now.access) greatest }
 {
-    u64::try_from(weight).unwrap_or(u64::MAX)
+    let count = store.member_count() as u64;
+    let weight = u64::try_from(store.total_weight()).unwrap_or(u64::MAX);
+    (count, weight)
 }

@@ -1,7 +1,6 @@
-use Rattle.std.proofs.Common.{◌≡◌, true≢false, refl, None, option_map, ap, sym, ◌∙◌, min, if◌then◌else◌}
+use Rattle.std.proofs.Common.{◌≡◌, true≢false, refl, None, option_map, ap, sym, ◌∙◌, if◌then◌else◌}
 use Rattle.std.specs.Duration.{as_nanos}
 use Rattle.moka_parts.specs.Maintenance.{is_over}
-use Rattle.moka_records.specs.Time.{greatest}
 use Rattle.moka_engine.proofs.IdleRuns.{idle_answer}
 use Rattle.moka_engine.proofs.RunSteps.{run_keeps_whole, run_ends_exact, cache_runs, disabled_cache_runs, disabled_exact}
 use Rattle.moka_engine.proofs.base_cache.BaseCache.run_pending_tasks.Given.{Over}
@@ -26,14 +25,14 @@ invariant_of-self-2 g c =
     run_keeps_whole c.self.view_is c.self.inside.inner c.apply_queues.new.self c.make_passes-ran.new.self refl c.self.invariant (sym c.is_map_disabled.ensures ∙ c.if-is_map_disabled.false)
     c.is_some.ensures c.apply_queues.ensures.prepared c.apply_queues.ensures.rest c.apply_queues.ensures.timers c.make_passes-ran.ensures.timers
     (record { now = c.args.now.0; limit = option_map as_nanos c.args.limit; batch = c.args.batch }) (rw (c.time_to_live.ensures, c.time_to_idle.ensures) refl) (limited g (goal.at.invariant_of-self-2 g c).After-limit_of_run-limit)
-    c.make_passes-ran.ensures.ran c.make_passes-ran.ensures.rest c.member_count.result c.saturated-self-inside.result (rw c.store-store.ensures at c.member_count.ensures.value) (c.saturated-self-inside.ensures ∙ ap (λ n. min n greatest) (rw c.store-store.ensures at c.total_weight.ensures))
+    c.make_passes-ran.ensures.ran c.make_passes-ran.ensures.rest c.report_of-count.result.0 c.report_of-count.result.1 (rw c.store.ensures at c.report_of-count.ensures.count) (rw c.store.ensures at c.report_of-count.ensures.weight)
 
 pub returns-clause-step : goal.returns-clause-step
 returns-clause-step g c =
     cache_runs c.self.view_is c.self.inside.inner c.apply_queues.new.self c.make_passes-ran.new.self refl c.self.invariant (sym c.is_map_disabled.ensures ∙ c.if-is_map_disabled.false)
     c.is_some.ensures c.apply_queues.ensures.prepared c.apply_queues.ensures.rest c.apply_queues.ensures.timers c.make_passes-ran.ensures.timers
     (record { now = c.args.now.0; limit = option_map as_nanos c.args.limit; batch = c.args.batch }) (rw (c.time_to_live.ensures, c.time_to_idle.ensures) refl) (limited g (goal.at.returns-clause-step g c).After-limit_of_run-limit)
-    c.make_passes-ran.ensures.ran c.make_passes-ran.ensures.rest c.member_count.result c.saturated-self-inside.result (rw c.store-store.ensures at c.member_count.ensures.value) (c.saturated-self-inside.ensures ∙ ap (λ n. min n greatest) (rw c.store-store.ensures at c.total_weight.ensures))
+    c.make_passes-ran.ensures.ran c.make_passes-ran.ensures.rest c.report_of-count.result.0 c.report_of-count.result.1 (rw c.store.ensures at c.report_of-count.ensures.count) (rw c.store.ensures at c.report_of-count.ensures.weight)
     c.make_passes-ran.ensures.none
 
 pub returns-clause-exact : goal.returns-clause-exact
@@ -41,7 +40,7 @@ returns-clause-exact g c =
     run_ends_exact c.self.view_is c.self.inside.inner c.apply_queues.new.self c.make_passes-ran.new.self refl c.self.invariant (sym c.is_map_disabled.ensures ∙ c.if-is_map_disabled.false)
     c.is_some.ensures c.apply_queues.ensures.prepared c.apply_queues.ensures.rest c.apply_queues.ensures.timers c.make_passes-ran.ensures.timers
     (record { now = c.args.now.0; limit = option_map as_nanos c.args.limit; batch = c.args.batch }) (rw (c.time_to_live.ensures, c.time_to_idle.ensures) refl) (limited g (goal.at.returns-clause-exact g c).After-limit_of_run-limit)
-    c.make_passes-ran.ensures.ran c.make_passes-ran.ensures.rest c.member_count.result c.saturated-self-inside.result (rw c.store-store.ensures at c.member_count.ensures.value) (c.saturated-self-inside.ensures ∙ ap (λ n. min n greatest) (rw c.store-store.ensures at c.total_weight.ensures))
+    c.make_passes-ran.ensures.ran c.make_passes-ran.ensures.rest c.report_of-count.result.0 c.report_of-count.result.1 (rw c.store.ensures at c.report_of-count.ensures.count) (rw c.store.ensures at c.report_of-count.ensures.weight)
 
 pub returns-clause-idle : goal.returns-clause-idle
 returns-clause-idle g c = λ _ zero.
