@@ -11,6 +11,7 @@ use crate::engine::moka_parts::housekeeper::{Clock, InnerSync};
 use crate::engine::moka_parts::notification::Listener;
 use crate::engine::moka_parts::policy::{Expiry, Instant};
 use crate::engine::moka_parts::records::ReadOperation;
+use crate::engine::moka_store::Store;
 use crate::support::hash::{BuildHasher, Hash};
 use crate::support::time::Duration;
 
@@ -79,9 +80,9 @@ impl<
         let ran = self
             .inner
             .make_passes(&mut self.notifier, &mut self.invalidator, clock, terms);
-        let store = self.inner.store();
-        self.entry_count = store.member_count() as u64;
-        self.weighted_size = saturated(store.total_weight());
+        let (count, weight) = report_of(self.inner.store());
+        self.entry_count = count;
+        self.weighted_size = weight;
         self.passes = ran.passes;
         ran.has_more
     }
@@ -174,8 +175,10 @@ fn limit_of_run(is_listening: bool, limit: Option<Duration>) -> Option<Duration>
     if is_listening { limit } else { None }
 }
 
-// The weight, or the greatest number if the weight is greater.
-fn saturated(weight: u128) -> u64
+// What a run reports: how many members there are, and their weight, saturating.
+fn report_of<K: Eq + Hash, V, S: BuildHasher>(store: &Store<K, V, S>) -> (u64, u64)
 {
-    u64::try_from(weight).unwrap_or(u64::MAX)
+    let count = store.member_count() as u64;
+    let weight = u64::try_from(store.total_weight()).unwrap_or(u64::MAX);
+    (count, weight)
 }

@@ -13,3 +13,6 @@ returns-clause-step g c =
     let got = c.get_hashed.ensures.step in
     let unasked = ignores_nothing (record {}) c.get_hashed.new.ignore_if (value_of (record_by (g.T.KeyTest.passes c.args.test.now) c.args.self.now.state.records)) got.0 got.1 in
     rw unasked at got.2
+
+pub returns-clause-succeeds : goal.returns-clause-succeeds
+returns-clause-succeeds g c = c.get_hashed.ensures.succeeds

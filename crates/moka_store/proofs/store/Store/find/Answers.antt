@@ -1,8 +1,14 @@
-use Rattle.std.proofs.Common.{◌≡◌, IsSome, is_some, true, subst}
+use Rattle.std.proofs.Common.{◌≡◌, IsSome, is_some, true, rules, subst}
 use Rattle.std.specs.FinMap.{get}
 use Rattle.moka_table.specs.RecordTable.{records_of}
 use Rattle.moka_store.proofs.Steps.{one-each}
 use Rattle.moka_store.proofs.store.Store.find.Goals as goal
+
+pub returns-clause-found : goal.returns-clause-found
+returns-clause-found g c = search rules
+
+pub returns-clause-elsewhere : goal.returns-clause-elsewhere
+returns-clause-elsewhere g c = search rules
 
 pub returns-clause-handle : goal.returns-clause-handle
 returns-clause-handle g c h =
