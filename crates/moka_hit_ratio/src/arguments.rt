@@ -151,10 +151,9 @@ impl Request {
             bail!("there is no option {word:?}; --help shows all");
         }
         if self.capacities.is_empty() {
-            self.capacities = numbers(alloc, word)?;
-        } else {
-            self.traces.push(String::from_str(alloc, word)?)?;
+            return push_numbers(&mut self.capacities, word);
         }
+        self.traces.push(String::from_str(alloc, word)?)?;
         Ok(())
     }
 
@@ -219,41 +218,31 @@ fn zipf(text: &str) -> Result<Origin<'_>> {
     made(Shape::Zipf(hundredths), keys)
 }
 
-/// A made trace, and over how many keys.
+/// A made trace, and over how many keys, at least one.
 fn made(shape: Shape, keys: &str) -> Result<Origin<'_>> {
-    Ok(Origin::Made(shape, count(keys)?))
-}
-
-/// A number above 0, of 32 bits.
-fn count(text: &str) -> Result<u32> {
-    let count = small_number(text)?;
+    let count = small_number(keys)?;
     if count == 0 {
         bail!("a number of keys is above 0");
     }
-    Ok(count)
+    Ok(Origin::Made(shape, count))
 }
 
 /// A number of 32 bits.
 fn small_number(text: &str) -> Result<u32> {
-    let number = text
-        .parse::<u32>()
-        .context(format_args!("reading {text:?}"))?;
-    Ok(number)
+    text.parse::<u32>()
+        .context(format_args!("reading {text:?}"))
 }
 
 /// A number.
 fn number(text: &str) -> Result<u64> {
-    let number = text
-        .parse::<u64>()
-        .context(format_args!("reading {text:?}"))?;
-    Ok(number)
+    text.parse::<u64>()
+        .context(format_args!("reading {text:?}"))
 }
 
-/// Numbers with commas between them.
-fn numbers(alloc: Global, text: &str) -> Result<Vec<u64>> {
-    let mut all = Vec::new(alloc);
+/// Adds numbers with commas between them.
+fn push_numbers(all: &mut Vec<u64>, text: &str) -> Result<()> {
     for word in text.split(',') {
         all.push(number(word)?)?;
     }
-    Ok(all)
+    Ok(())
 }

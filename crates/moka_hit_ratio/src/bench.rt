@@ -63,6 +63,18 @@ impl Caches {
         })
     }
 
+    /// Empty caches of each of these capacities.
+    fn of_each(alloc: Global, capacities: &[u64]) -> Result<Vec<Self>>
+        ensures length { IfOk result (λ all. vec_len all ≡ length capacities.now) }
+        ensures capacities { IfOk result (λ all. map (λ c. c.row.capacity) all.items ≡ capacities.now) }
+    {
+        let mut all = Vec::new(alloc);
+        for capacity in capacities {
+            all.push(Caches::new(alloc, *capacity)?)?;
+        }
+        Ok(all)
+    }
+
     /// Reads a key through each, and counts what each has found, if that is asked for.
     fn read(&mut self, key: u64, is_counted: bool) -> Result<()>
         ensures read { IfOk result (λ _. AreRead key is_counted self.old self.new) }
@@ -117,10 +129,7 @@ impl Bench {
         ensures capacities { IfOk result (λ bench. map (λ c. c.row.capacity) bench.caches.items ≡ capacities.now) }
         ensures begun { IfOk result (λ bench. (bench.warm ≡ warm) × (bench.reads ≡ 0)) }
     {
-        let mut caches = Vec::new(alloc);
-        for capacity in capacities {
-            caches.push(Caches::new(alloc, *capacity)?)?;
-        }
+        let caches = Caches::of_each(alloc, capacities)?;
         let keys = if has_optimum {
             Some(Vec::new(alloc))
         } else {

@@ -91,6 +91,12 @@ impl Scales {
     {
         TOP + HEIGHT - place(ratio, self.ratio, HEIGHT)
     }
+
+    /// Where the ratio of a row lies, if its policy was played.
+    fn point(self, row: &Row, policy: Policy) -> Option<(u64, u64)> {
+        let ratio = row.ratio(policy)?;
+        Some((self.across(row.capacity), self.down(ratio.0)))
+    }
 }
 
 /// The highest ratio of a row, in ten-thousandths.
@@ -150,9 +156,12 @@ fn draw_capacities<W: Write>(out: &mut W, scales: Scales) -> io::Result<()> {
 
 /// Draws the line of each policy that was played, and its entry of the legend.
 fn draw_lines<W: Write>(out: &mut W, scales: Scales, rows: &[Row]) -> io::Result<()> {
+    let Some(first) = rows.first() else {
+        return Ok(());
+    };
     let mut x = LEFT;
     for policy in POLICIES {
-        if rows.iter().any(|row| row.ratio(policy).is_some()) {
+        if first.ratio(policy).is_some() {
             draw_line(out, scales, rows, policy)?;
             draw_dots(out, scales, rows, policy)?;
             draw_entry(out, x, policy)?;
@@ -172,8 +181,7 @@ fn draw_line<W: Write>(
     let class = class_of(policy);
     write!(out, "<polyline class='line {class}' points='")?;
     for row in rows {
-        if let Some(ratio) = row.ratio(policy) {
-            let (x, y) = (scales.across(row.capacity), scales.down(ratio.0));
+        if let Some((x, y)) = scales.point(row, policy) {
             write!(out, " {x},{y}")?;
         }
     }
@@ -189,8 +197,7 @@ fn draw_dots<W: Write>(
 ) -> io::Result<()> {
     let class = class_of(policy);
     for row in rows {
-        if let Some(ratio) = row.ratio(policy) {
-            let (x, y) = (scales.across(row.capacity), scales.down(ratio.0));
+        if let Some((x, y)) = scales.point(row, policy) {
             writeln!(
                 out,
                 "<circle class='dot {class}' cx='{x}' cy='{y}' r='38'/>"

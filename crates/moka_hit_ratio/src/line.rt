@@ -45,7 +45,7 @@ impl fmt::Display for BadLine {
             BadLine::TooMuch => "there is more on it than the format has",
             BadLine::TooLarge => "a key is above 2^64 - 2",
         };
-        write!(f, "{text}")
+        f.write_str(text)
     }
 }
 

@@ -33,13 +33,21 @@ use std::rt::{Env, Files};
 fn main(rt: HostRuntime) -> Result<()> {
     let arguments = arguments_of(&rt)?;
     let request = Request::read(rt.alloc(), &arguments)?;
+    answer(&rt, &request)
+}
+
+/// Does what the arguments ask for.
+fn answer<R: Files + Input + Print + Eprint + AllocGlobal>(
+    rt: &R,
+    request: &Request,
+) -> Result<()> {
     if request.is_help {
         println!(rt; "{HELP}")?;
         return Ok(());
     }
     for name in &request.traces {
-        let rows = play(&rt, &request, name)?;
-        report(&rt, &request, name, &rows)?;
+        let rows = play(rt, request, name)?;
+        report(rt, request, name, &rows)?;
     }
     Ok(())
 }
@@ -53,15 +61,19 @@ fn report<R: Files + Print + AllocGlobal>(
 ) -> Result<()> {
     let title = request.title.as_deref().unwrap_or(name);
     match request.svg.as_deref() {
-        None => print_table(rt, name, rows)?,
-        Some("-") => write_chart(rt.alloc(), io::writer(rt), title, rows)?,
+        None => Ok(print_table(rt, name, rows)?),
+        Some("-") => write_chart(rt.alloc(), io::writer(rt), title, rows),
         Some(path) => {
             print_table(rt, name, rows)?;
-            let file = File::create(rt, path).context(format_args!("creating {path}"))?;
-            write_chart(rt.alloc(), file, title, rows)?;
+            write_file(rt, path, title, rows)
         }
     }
-    Ok(())
+}
+
+/// Draws a chart into a file.
+fn write_file<R: Files + AllocGlobal>(rt: &R, path: &str, title: &str, rows: &[Row]) -> Result<()> {
+    let file = File::create(rt, path).context(format_args!("creating {path}"))?;
+    write_chart(rt.alloc(), file, title, rows)
 }
 
 /// Draws a chart through a buffer.

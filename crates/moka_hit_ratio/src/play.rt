@@ -18,34 +18,55 @@ const LONGEST_LINE: usize = 4096;
 
 /// A trace under way.
 #[derive(Drop)]
-struct Session<'a> {
-    name: &'a str,
+struct Session {
     bench: Bench,
     /// How many accesses are played at most.
     most: u64,
 }
 
-impl Session<'_> {
+impl Session {
     /// Whether no more accesses are asked for.
     fn is_done(&self) -> bool {
         self.bench.reads() >= self.most
     }
 
     /// Reads a key through the caches, and tells of progress.
-    fn read(&mut self, rt: &impl Eprint, key: u64) -> Result<()> {
+    fn read(&mut self, rt: &impl Eprint, name: &str, key: u64) -> Result<()> {
         self.bench.read(key)?;
         let reads = self.bench.reads();
         if reads % PROGRESS == 0 {
-            let name = self.name;
             eprintln!(rt; "{name}: {reads} accesses")?;
         }
         Ok(())
     }
 
+    /// Plays a trace.
+    fn play<R: Files + Input + Eprint + AllocGlobal>(
+        &mut self,
+        rt: &R,
+        name: &str,
+        origin: Origin<'_>,
+    ) -> Result<()> {
+        match origin {
+            Origin::Made(shape, keys) => self.play_made(rt, name, Trace::new(shape, keys)),
+            Origin::Read(format, "-") => self.play_lines(rt, name, format, rt.reader()),
+            Origin::Read(format, path) => self.play_lines(rt, name, format, open(rt, path)?),
+        }
+    }
+
+    /// What the caches found, if accesses were counted behind those that fill them.
+    fn rows(&self, name: &str, warm: u64) -> Result<Vec<Row>> {
+        let reads = self.bench.reads();
+        if reads <= warm {
+            bail!("{name}: none of {reads} accesses is counted");
+        }
+        self.bench.rows()
+    }
+
     /// Plays a trace that is made.
-    fn play_made(&mut self, rt: &impl Eprint, mut trace: Trace) -> Result<()> {
+    fn play_made(&mut self, rt: &impl Eprint, name: &str, mut trace: Trace) -> Result<()> {
         for _ in 0..self.most {
-            self.read(rt, trace.next_key())?;
+            self.read(rt, name, trace.next_key())?;
         }
         Ok(())
     }
@@ -54,55 +75,80 @@ impl Session<'_> {
     fn play_lines<R: Read + Drop>(
         &mut self,
         rt: &(impl Eprint + AllocGlobal),
+        name: &str,
         format: Format,
         source: R,
     ) -> Result<()> {
-        let name = self.name;
         let mut source = BufReader::new(rt.alloc(), source)?;
         let mut line = Vec::new(rt.alloc());
+        self.play_lines_of(rt, name, format, &mut source, &mut line)
+    }
+
+    /// Plays lines, each by way of a buffer.
+    fn play_lines_of<S: BufRead>(
+        &mut self,
+        rt: &impl Eprint,
+        name: &str,
+        format: Format,
+        source: &mut S,
+        line: &mut Vec<u8>,
+    ) -> Result<()> {
         for number in 1..u64::MAX {
-            if self.is_done() {
+            if self.is_done() || !read_line(name, number, source, line)? {
                 break;
             }
-            let is_there = read_line(&mut source, &mut line).context(format_args!(
-                "{name}: line {number}"
-            ))?;
-            if !is_there {
-                break;
-            }
-            match keys_of(format, &line) {
-                Ok(keys) => self.play_keys(rt, keys)?,
-                Err(bad) => bail!("{name}: line {number}: {bad}"),
-            }
+            let keys = keys_of(name, number, format, line)?;
+            self.play_keys(rt, name, keys)?;
         }
         Ok(())
     }
 
     /// Plays keys that follow one another, as far as they are asked for.
-    fn play_keys(&mut self, rt: &impl Eprint, keys: Range<u64>) -> Result<()> {
+    fn play_keys(&mut self, rt: &impl Eprint, name: &str, keys: Range<u64>) -> Result<()> {
         for key in keys {
             if self.is_done() {
                 break;
             }
-            self.read(rt, key)?;
+            self.read(rt, name, key)?;
         }
         Ok(())
     }
 }
 
-/// Reads a line into a buffer, or as many bytes of it as a line may have. Whether there was one.
-fn read_line<R: BufRead>(source: &mut R, line: &mut Vec<u8>) -> Result<bool> {
+/// Reads the line of that number into a buffer, or as many bytes of it as a line may have. Whether there was one.
+fn read_line<S: BufRead>(
+    name: &str,
+    number: u64,
+    source: &mut S,
+    line: &mut Vec<u8>,
+) -> Result<bool> {
     line.clear();
-    let size = source.take(LONGEST_LINE as u64).read_until(b'\n', line)?;
+    let size = source
+        .take(LONGEST_LINE as u64)
+        .read_until(b'\n', line)
+        .context(format_args!("{name}: line {number}"))?;
     Ok(size > 0)
 }
 
+/// The keys that the line of that number names.
+fn keys_of(name: &str, number: u64, format: Format, line: &[u8]) -> Result<Range<u64>> {
+    match whole_line_keys(format, line) {
+        Ok(keys) => Ok(keys),
+        Err(bad) => bail!("{name}: line {number}: {bad}"),
+    }
+}
+
 /// The keys that a line names, if it was read whole.
-fn keys_of(format: Format, line: &[u8]) -> Result<Range<u64>, BadLine> {
+fn whole_line_keys(format: Format, line: &[u8]) -> Result<Range<u64>, BadLine> {
     if line.len() >= LONGEST_LINE {
         return Err(BadLine::TooLong);
     }
     line_keys(format, line)
+}
+
+/// Opens the file of a trace.
+fn open<R: Files>(rt: &R, path: &str) -> Result<R::File> {
+    File::open(rt, path).context(format_args!("opening {path}"))
 }
 
 /// What caches of the asked capacities find in a trace.
@@ -122,31 +168,9 @@ pub fn play<R: Files + Input + Eprint + AllocGlobal>(
         request.has_optimum,
     )?;
     let mut session = Session {
-        name,
         bench,
         most: request.most_accesses(origin),
     };
-    match origin {
-        Origin::Made(shape, keys) => session.play_made(rt, Trace::new(shape, keys))?,
-        Origin::Read(format, path) => play_file(rt, &mut session, format, path)?,
-    }
-    let reads = session.bench.reads();
-    if reads <= request.warm {
-        bail!("{name}: none of {reads} accesses is counted");
-    }
-    session.bench.rows()
-}
-
-/// Plays the lines of a file, or of standard input.
-fn play_file<R: Files + Input + Eprint + AllocGlobal>(
-    rt: &R,
-    session: &mut Session<'_>,
-    format: Format,
-    path: &str,
-) -> Result<()> {
-    if path == "-" {
-        return session.play_lines(rt, format, rt.reader());
-    }
-    let file = File::open(rt, path).context(format_args!("opening {path}"))?;
-    session.play_lines(rt, format, file)
+    session.play(rt, name, origin)?;
+    session.rows(name, request.warm)
 }

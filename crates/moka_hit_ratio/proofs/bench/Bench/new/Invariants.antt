@@ -1,7 +1,0 @@
--- Caches were made for each capacity so far.
-use Rattle.std.proofs.Common.{◌≡◌, map, take, vec_len}
-use Rattle.moka_hit_ratio.proofs.bench.Bench.new.Given as goal
-
-abbrev pub invariant-loop-capacity : goal.invariant-loop-capacity
-invariant-loop-capacity l = (vec_len l.caches ≡ l.capacity-index)
-    × (map (λ c. c.row.capacity) l.caches.items ≡ take l.capacity-index l.fn.capacities)
