@@ -3,3 +3,4 @@ pub mod Room
 pub mod Grounds
 pub mod Ran
 mod Lines
+mod InTurn

@@ -1,17 +1,29 @@
 -- What explains the reply to a call.
-use Rattle.std.specs.Prelude.{◌≡◌, ℕ, Bool, List, length, map, Contains, IsPermutation, Some, None, if◌then◌else◌}
+use Rattle.std.specs.Prelude.{◌≡◌, ℕ, Bool, List, [], ◌∷◌, length, map, Contains, IsPermutation, Some, None, if◌then◌else◌}
 use Rattle.std.specs.List.{AllByRecursion}
 use Rattle.std.specs.List.Sorted.{IsNonDecreasing}
 use Rattle.std.specs.FinMap.{get, values}
+use Rattle.std.proofs.Common.{BuildHasherDefault, FoldHasher}
 use Rattle.moka_types.specs.declared.calls.Call.TheVariants as call
+use Rattle.moka_types.specs.declared.calls.Reply.{Reply}
 use Rattle.moka_records.specs.declared.instant.Instant.{Instant}
 use Rattle.moka_records.specs.declared.records.Record.{Record}
+use Rattle.moka_parts.specs.Drives.{Drives}
 use Rattle.moka_parts.specs.Maintenance.{Freedom, AreFree, at_end, left_in_run}
+use Rattle.moka_parts.specs.Runs.{Engine}
 use Rattle.moka_parts.specs.State.{State}
 use Rattle.moka_parts.specs.Visibility.{IsVisible}
 use Rattle.moka_parts.specs.Writes.{leaves_for_size}
+use Rattle.moka_script.specs.declared.key_range.KeyRange.{KeyRange}
+use Rattle.moka_script.specs.declared.rules.Rule.{Rule}
+use Rattle.moka_script.specs.declared.sources.CountedIds.{CountedIds}
+use Rattle.moka_script.specs.declared.weigher.NumberWeigher.{NumberWeigher}
+use Rattle.moka_script.specs.declared.script.Script.{Script}
 use Rattle.moka_script.specs.Calls.{CallText}
-use Rattle.moka_play.specs.Played.{ScriptState, script_meaning}
+use Rattle.moka_script.specs.Ids.{first_ids}
+use Rattle.moka_script.specs.Notices.{Kept}
+use Rattle.moka_script.specs.Text.{IsInOrder}
+use Rattle.moka_play.specs.Played.{ScriptState, first_state, script_meaning}
 use Rattle.moka_explain.specs.declared.look.Look.{Look}
 use Rattle.moka_explain.specs.declared.explain.Question.{Question}
 use Rattle.moka_explain.specs.declared.explain.Question.TheVariants as question
@@ -19,6 +31,8 @@ use Rattle.moka_explain.specs.declared.explain.Queued.{Queued}
 use Rattle.moka_explain.specs.declared.explain.Fates.{Fates}
 use Rattle.moka_explain.specs.declared.explain.Answer.{Answer}
 use Rattle.moka_explain.specs.declared.explain.Answer.TheVariants as answer
+use Rattle.moka_explain.specs.declared.explain.Explained.{Explained}
+use Rattle.moka_explain.specs.declared.explain.Surroundings.{Surroundings}
 use Rattle.moka_explain.specs.Grounds.{HasGroundForRoom}
 use Rattle.moka_explain.specs.Looks.{IsLook}
 
@@ -84,3 +98,38 @@ abbrev pub IsMadeRoomFor : CallText → ScriptState → ScriptState → Type 0
 IsMadeRoomFor (call.Run now limit repeats batch) s t = MakesRoom now.0 s t
 IsMadeRoomFor (call.RunIfDue now) s t = MakesRoom now.0 s t
 IsMadeRoomFor c s t = Unit {0}
+
+-- ---- a list of calls
+
+-- where a script stands between two calls: its cache, what its clock has left, and the identifiers that it gave
+pub record Point (S : Type 0) : Type 0 where
+  pub cache : Engine ℕ (List ℕ) S (List Rule) Kept KeyRange NumberWeigher
+  pub clock : List ℕ
+  pub ids : CountedIds
+
+abbrev pub point_of : {S : Type 0} → Engine ℕ (List ℕ) S (List Rule) Kept KeyRange NumberWeigher → Surroundings →
+    Point S
+point_of cache outside = record { cache = cache; clock = outside.clock; ids = outside.ids }
+
+module _ {S : Type 0} (automatic : Bool) where
+  -- a call was made, as by `drive`, and explained
+  pub record IsExplained (c : CallText) (explained : Explained) (s t : Point S) : Type 0 where
+    pub given : Reply ℕ (List ℕ) KeyRange
+    pub in_order : IsInOrder given explained.reply
+    pub made : Drives script_meaning (c ∷ []) (given ∷ []) s.cache s.clock s.ids t.cache t.clock t.ids
+    pub answer : IsAnswer (question_of automatic c) s.cache.state t.cache.state explained.answer
+    pub room : IsMadeRoomFor c s.cache.state t.cache.state
+
+  -- so was each, one after the other
+  abbrev pub AreExplained : List CallText → List Explained → Point S → Point S → Type 0
+  AreExplained [] [] s t = t ≡ s
+  AreExplained (c ∷ calls) (x ∷ all) s t = (between : Point S) × IsExplained c x s between
+      × AreExplained calls all between t
+  AreExplained calls all s t = ⊥
+
+-- the calls of a script were made and explained, one after the other, on the cache that its settings ask for
+abbrev pub IsScriptExplained : Script → List Explained → Type 0
+IsScriptExplained script all = (s : Point (BuildHasherDefault FoldHasher)) × (t : Point (BuildHasherDefault FoldHasher))
+    × (s.cache.state ≡ first_state (record { settings = script.settings; rules = script.rules.items }))
+    × (s.clock ≡ script.clock.items) × (s.ids ≡ first_ids script.settings.repeats_ids)
+    × AreExplained script.settings.automatic script.calls.items all s t

@@ -187,3 +187,7 @@ answer_text reply answer.Nothing policy = []
 abbrev pub explained_text : Explained → EvictionPolicy → List ℕ
 explained_text explained policy =
     reply_text explained.reply ++ (codes "\n" ++ answer_text explained.reply explained.answer policy)
+
+-- the same of each, one after the other
+abbrev pub explained_texts : List Explained → EvictionPolicy → List ℕ
+explained_texts all policy = flat_map (λ explained. explained_text explained policy) all

@@ -1,13 +1,16 @@
 //! Makes the calls of a script one after the other, and finds out what each met and what came of it.
 ghost use Rattle.std.specs.Prelude.{◌≡◌, ℕ, List, [], ◌∷◌, map, IfOk, IsPermutation};
+ghost use Rattle.std.specs.Io.KnownBytes.{Appends};
 ghost use Rattle.std.specs.FinMap.{values};
 ghost use Rattle.std.specs.List.Sorted.{IsNonDecreasing};
 ghost use Rattle.moka_types.specs.declared.calls.Reply.{Reply};
 ghost use Rattle.moka_parts.specs.Drives.{Drives};
 ghost use Rattle.moka_script.specs.declared.key_range.KeyRange.{KeyRange};
 ghost use Rattle.moka_script.specs.Text.{IsInOrder};
-ghost use Rattle.moka_play.specs.Played.{script_meaning};
-ghost use Rattle.moka_explain.specs.Explained.{question_of, queued_in, AreFates, IsAnswer, IsMadeRoomFor};
+ghost use Rattle.moka_play.specs.Played.{chosen_policy, script_meaning};
+ghost use Rattle.moka_explain.specs.declared.explain.Explained.{Explained};
+ghost use Rattle.moka_explain.specs.Explained.{point_of, question_of, queued_in, AreExplained, AreFates, IsAnswer, IsMadeRoomFor, IsScriptExplained};
+ghost use Rattle.moka_explain.specs.Text.{explained_texts};
 
 use crate::look::{Look, look_at, look_at_all};
 use crate::text::write_explained;
@@ -80,10 +83,19 @@ pub enum Answer {
 }
 
 /// A reply with what explains it. Its keys, if it has any, are in rising order.
-#[derive(Drop)]
 pub struct Explained {
     pub reply: ScriptReply,
     pub answer: Answer,
+}
+
+// Written out so that an owner's drop is one call.
+impl Drop for Explained {
+    fn drop(self) {
+        let Explained {
+            reply: _,
+            answer: _,
+        } = self;
+    }
 }
 
 // What a script chooses for all its calls: whether runs start by themselves, and the policy.
@@ -94,7 +106,10 @@ struct Choices {
 }
 
 /// Makes the calls of a script on a new cache, and prints each reply with what explains it.
-pub fn explain_script<W: Write>(alloc: Global, script: Script, out: &mut W) -> Result<()> {
+pub fn explain_script<W: Write>(alloc: Global, script: Script, out: &mut W) -> Result<()>
+    ensures { IfOk result (λ _. (all : List Explained) × IsScriptExplained script all
+        × Appends (W.contents out.old) (W.contents out.new) (explained_texts all (chosen_policy script.settings))) }
+{
     let Script {
         settings,
         rules,
@@ -121,7 +136,12 @@ fn explain_calls<W: Write>(
     calls: Vec<ScriptCall>,
     choices: Choices,
     out: &mut W,
-) -> Result<()> {
+) -> Result<()>
+    ensures { IfOk result (λ _. (all : List Explained)
+        × AreExplained choices.automatic calls.items all (point_of cache.old outside.old)
+        (point_of cache.new outside.new)
+        × Appends (W.contents out.old) (W.contents out.new) (explained_texts all choices.policy)) }
+{
     for call in calls {
         let explained = explain_call(outside, cache, call, choices.automatic)?;
         write_explained(out, &explained, choices.policy)?;
